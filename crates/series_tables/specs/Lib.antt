@@ -1,0 +1,6 @@
+pub mod Text
+pub mod Plan
+pub mod LastValue
+pub mod Cells
+pub mod PlanError
+pub mod Ranges
