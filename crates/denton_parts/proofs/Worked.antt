@@ -1,5 +1,5 @@
 -- The definitions computed on a worked example: two years with the indicator 100 and the benchmarks 1000 and 1400.
-use Rattle.std.specs.Prelude.{◌≡◌, ℕ, ℤ, pos, negsuc, List, [], ◌∷◌}
+use Rattle.std.specs.Prelude.{◌≡◌, ℕ, ℤ, pos, List, [], ◌∷◌}
 use Rattle.std.proofs.Common.{refl}
 use Rattle.denton_parts.specs.Benchmarks.{MeetsBenchmarks}
 use Rattle.denton_parts.specs.Changes.{Fraction, changes}

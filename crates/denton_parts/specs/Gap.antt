@@ -1,5 +1,5 @@
 -- The gap of a series: how far its ratio changes are from given ones, rounded outwards (this product's own).
-use Rattle.std.specs.Prelude.{ℕ, max, ℤ, pos, ◌+ℤ◌, ◌-ℤ◌, ◌*ℤ◌, List, [], ◌∷◌, unsigned_abs}
+use Rattle.std.specs.Prelude.{ℕ, max, ℤ, pos, ◌+ℤ◌, ◌-ℤ◌, ◌*ℤ◌, List, ◌∷◌, unsigned_abs}
 use Rattle.ratio_arith.specs.Division.{floor_of, ceil_of}
 use Rattle.denton_parts.specs.Ratios.{square}
 use Rattle.denton_parts.specs.Changes.{Fraction}

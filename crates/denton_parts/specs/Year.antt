@@ -1,5 +1,5 @@
 -- One benchmarked year: its indicators, their sums, the ranges of its numbers, and its ratio changes.
-use Rattle.std.specs.Prelude.{ℕ, ◌+◌, ◌*◌, ◌^◌, ◌≤◌, ℤ, pos, List, [], ◌∷◌, slice_index, unsigned_abs}
+use Rattle.std.specs.Prelude.{ℕ, ◌+◌, ◌^◌, ◌≤◌, ℤ, List, [], ◌∷◌, slice_index, unsigned_abs}
 use Rattle.denton_parts.specs.Changes.{Fraction, change_of}
 
 -- the sum of the year's four indicators
