@@ -23,3 +23,8 @@ pub record IsFloor (n d q : ℤ) : Type 0 where
 pub record IsCeiling (n d q : ℤ) : Type 0 where
   pub at_least : n ≤ℤ (d *ℤ q)
   pub close : (d *ℤ q) <ℤ (n +ℤ d)
+
+-- q is the whole number nearest to n/d: at most half above it, and less than half below it, so halves go up
+pub record IsNearest (n d q : ℤ) : Type 0 where
+  pub at_most_half_above : (pos 2 *ℤ (d *ℤ q)) ≤ℤ (pos 2 *ℤ n +ℤ d)
+  pub below_half_under : (pos 2 *ℤ n) <ℤ (pos 2 *ℤ (d *ℤ q) +ℤ d)

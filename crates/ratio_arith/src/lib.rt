@@ -1,13 +1,79 @@
 //! Exact division of whole numbers: floor, ceiling, rounding with halves up, and products tested against a bound.
 #![tactic(auto)]
 
-ghost use Rattle.std.specs.Prelude.{◌≡◌, pos, ◌<ℤ◌};
-ghost use Rattle.ratio_arith.specs.Division.{floor_of};
+ghost use Rattle.std.specs.Prelude.{◌≡◌, ◌↔◌, ◌≤◌, ◌^◌, ◌*◌, pos, negsuc, ◌-◌, ◌*ℤ◌, ◌≤ℤ◌, ◌<ℤ◌, IsNone, IfSome, unsigned_abs};
+ghost use Rattle.ratio_arith.specs.Division.{floor_of, ceil_of, round_of, IsFloor, IsCeiling, IsNearest};
 
-/// The floor of `n / d`.
+/// The floor of `n / d`: the greatest whole number at most the quotient.
 pub fn floor_div(n: i128, d: i128) -> i128
     requires positive { pos 0 <ℤ d }
     ensures value { result ≡ floor_of n d }
+    ensures floor { IsFloor n d result }
 {
     n.div_euclid(d)
+}
+
+/// The ceiling of `n / d`: the least whole number at least the quotient.
+pub fn ceil_div(n: i128, d: i128) -> i128
+    requires positive { pos 0 <ℤ d }
+    requires above_least { negsuc (2 ^ 127 - 1) <ℤ n }
+    ensures value { result ≡ ceil_of n d }
+    ensures ceiling { IsCeiling n d result }
+{
+    -floor_div(-n, d)
+}
+
+/// `n / d` rounded to the nearest whole number, halves up: the floor of `(2n + d) / (2d)`.
+pub fn round_div(n: i128, d: i128) -> i128
+    requires positive { pos 1 ≤ℤ d }
+    requires divisor { d ≤ℤ pos (10 ^ 37) }
+    requires size { unsigned_abs n ≤ 8 * 10 ^ 37 }
+    ensures value { result ≡ round_of n d }
+    ensures nearest { IsNearest n d result }
+{
+    floor_div(2 * n + d, 2 * d)
+}
+
+/// The product of `a` and `b`, or `None` exactly where its absolute value passes `bound`.
+pub fn mul_within(a: i128, b: i128, bound: i128) -> Option<i128>
+    requires bound { pos 0 ≤ℤ bound }
+    ensures none { IsNone result ↔ (bound <ℤ pos (unsigned_abs (a *ℤ b))) }
+    ensures product { IfSome result (λ product. product ≡ a *ℤ b) }
+{
+    let product = a.checked_mul(b)?;
+    if bound.unsigned_abs() < product.unsigned_abs() {
+        None
+    } else {
+        Some(product)
+    }
+}
+
+#[cfg(test)]
+mod tests {
+    use super::*;
+
+    #[test]
+    fn divides_either_sign(rt: HostRuntime) {
+        for (n, d, floor, ceiling, nearest) in [
+            (7, 2, 3, 4, 4),
+            (-7, 2, -4, -3, -3),
+            (8, 4, 2, 2, 2),
+            (-9, 4, -3, -2, -2),
+            (-10, 4, -3, -2, -2),
+            (5, 3, 1, 2, 2),
+        ] {
+            assert_eq!(rt; floor_div(n, d), floor);
+            assert_eq!(rt; ceil_div(n, d), ceiling);
+            assert_eq!(rt; round_div(n, d), nearest);
+        }
+    }
+
+    #[test]
+    fn tests_products(rt: HostRuntime) {
+        assert_eq!(rt; mul_within(-6, 7, 42), Some(-42));
+        assert_eq!(rt; mul_within(-6, 7, 41), None);
+        assert_eq!(rt; mul_within(i128::MIN, 1, i128::MAX), None);
+        assert_eq!(rt; mul_within(i128::MAX, i128::MAX, i128::MAX), None);
+        assert_eq!(rt; mul_within(i128::MIN, 0, 0), Some(0));
+    }
 }

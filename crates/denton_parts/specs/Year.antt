@@ -1,0 +1,34 @@
+-- One benchmarked year: its indicators, their sums, the ranges of its numbers, and its ratio changes.
+use Rattle.std.specs.Prelude.{ℕ, ◌+◌, ◌^◌, ◌≤◌, ℤ, List, [], ◌∷◌, slice_index, unsigned_abs}
+use Rattle.denton_parts.specs.Changes.{Fraction, change_of}
+
+-- the sum of the year's four indicators
+abbrev pub year_sum : List ℕ → ℕ
+year_sum indicators = slice_index indicators 0 + slice_index indicators 1 + slice_index indicators 2 + slice_index indicators 3
+
+-- for each of the four quarters, the sum of the year's indicators before it
+abbrev pub sums_before : List ℕ → List ℕ
+sums_before indicators = 0 ∷ slice_index indicators 0 ∷ (slice_index indicators 0 + slice_index indicators 1) ∷ (slice_index indicators 0 + slice_index indicators 1 + slice_index indicators 2) ∷ []
+
+-- an indicator is from 1 to 10^9
+abbrev pub IsIndicator : ℕ → Type 0
+IsIndicator indicator = (1 ≤ indicator) × (indicator ≤ 10 ^ 9)
+
+-- all four indicators of a year are
+pub record AreIndicators (indicators : List ℕ) : Type 0 where
+  pub first : IsIndicator (slice_index indicators 0)
+  pub second : IsIndicator (slice_index indicators 1)
+  pub third : IsIndicator (slice_index indicators 2)
+  pub fourth : IsIndicator (slice_index indicators 3)
+
+-- a benchmark is within 10^12
+abbrev pub IsBenchmark : ℤ → Type 0
+IsBenchmark benchmark = unsigned_abs benchmark ≤ 10 ^ 12
+
+-- a multiplier is within 10^15
+abbrev pub IsMultiplier : ℤ → Type 0
+IsMultiplier multiplier = unsigned_abs multiplier ≤ 10 ^ 15
+
+-- the change into a quarter of the year, from 0 to 3, between the multipliers before and after the year
+abbrev pub change_in_year : List ℕ → ℤ → ℤ → ℕ → Fraction
+change_in_year indicators left right quarter = change_of left right (year_sum indicators) (slice_index (sums_before indicators) quarter)

@@ -1,0 +1,6 @@
+pub mod Floors
+pub mod Linear
+pub mod Near
+pub mod Order
+pub mod Products
+pub mod Ring
