@@ -77,6 +77,30 @@ pub fn share_out(parts: &[i128; 4], den: i128, total: i128, out: &mut [i128; 4])
     hand_out(&floors, &rests, left, out);
 }
 
+/// `share_out` of four parts that are given one by one.
+pub fn share_four(
+    first: i128,
+    second: i128,
+    third: i128,
+    fourth: i128,
+    den: i128,
+    total: i128,
+) -> [i128; 4]
+    requires positive { pos 0 <ℤ den }
+    requires divisor { den ≤ℤ pos (10 ^ 37) }
+    requires first { unsigned_abs first ≤ 10 ^ 37 }
+    requires second { unsigned_abs second ≤ 10 ^ 37 }
+    requires third { unsigned_abs third ≤ 10 ^ 37 }
+    requires fourth { unsigned_abs fourth ≤ 10 ^ 37 }
+    requires adds_up { sum_of (first ∷ second ∷ third ∷ fourth ∷ []) ≡ den *ℤ total }
+    ensures share { result ≡ share_of (first ∷ second ∷ third ∷ fourth ∷ []) den total }
+    ensures relation { IsShareOut (first ∷ second ∷ third ∷ fourth ∷ []) den total result }
+{
+    let mut out = [0; 4];
+    share_out(&[first, second, third, fourth], den, total, &mut out);
+    out
+}
+
 /// Law: the function of ranks, which `share_out` computes, gives a share-out for any four parts that add up to a positive divisor times the total.
 pub fn ranks_share_out()
     ensures law { RanksShareOut }
