@@ -1,0 +1,5 @@
+pub mod Steps
+pub mod Sizes
+pub mod Ranks
+pub mod Laws
+mod Rows
