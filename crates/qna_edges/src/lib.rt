@@ -1,0 +1,13 @@
+//! The outside as the compiler sees it: sources, sinks and files by their names, with counts of their faults.
+//! A call that blames a device does so only where a count rose.
+#![tactic(auto)]
+
+mod gate;
+mod outside;
+mod refused;
+mod status;
+
+pub use gate::{Gate, OpenGate, Place};
+pub use outside::{Cabinet, Sink, Source};
+pub use refused::{Failed, Refused};
+pub use status::Status;
