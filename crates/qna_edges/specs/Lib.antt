@@ -1,3 +1,5 @@
 pub mod Count
 pub mod Told
+pub mod Memory
 pub mod Names
+pub mod Refused

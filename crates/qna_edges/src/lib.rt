@@ -5,9 +5,13 @@
 mod gate;
 mod outside;
 mod refused;
+mod sink;
+mod source;
 mod status;
 
 pub use gate::{Gate, OpenGate, Place};
 pub use outside::{Cabinet, Sink, Source};
 pub use refused::{Failed, Refused};
+pub use sink::{MemSink, QuietSink, write_all};
+pub use source::{MemSource, QuietSource};
 pub use status::Status;
