@@ -1,5 +1,6 @@
 pub mod Count
 pub mod Told
 pub mod Memory
+pub mod Tally
 pub mod Names
 pub mod Refused

@@ -8,6 +8,7 @@ mod refused;
 mod sink;
 mod source;
 mod status;
+mod tally;
 
 pub use gate::{Gate, OpenGate, Place};
 pub use outside::{Cabinet, Sink, Source};
