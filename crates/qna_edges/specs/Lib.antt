@@ -2,5 +2,6 @@ pub mod Count
 pub mod Told
 pub mod Memory
 pub mod Tally
+pub mod MemCabinet
 pub mod Names
 pub mod Refused

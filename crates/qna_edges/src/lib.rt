@@ -3,6 +3,7 @@
 #![tactic(auto)]
 
 mod gate;
+mod mem_cabinet;
 mod outside;
 mod refused;
 mod sink;
@@ -11,6 +12,7 @@ mod status;
 mod tally;
 
 pub use gate::{Gate, OpenGate, Place};
+pub use mem_cabinet::MemCabinet;
 pub use outside::{Cabinet, Sink, Source};
 pub use refused::{Failed, Refused};
 pub use sink::{MemSink, QuietSink, write_all};

@@ -9,7 +9,7 @@ ghost use Rattle.qna_edges.specs.Refused.{is_failed};
 ghost use Rattle.qna_edges.specs.Memory.{Store, fails_at, next_number};
 
 use crate::{Refused, Sink};
-use std::alloc::Global;
+use std::alloc::{AllocError, Global};
 use std::marker::Model;
 
 /// Writes all of `bytes`. After a refusal the sink holds what it held, followed by a prefix of `bytes`.
@@ -68,6 +68,55 @@ impl MemSink {
         ensures { result.now ≡ self.now.held }
     {
         &self.held
+    }
+
+    // A sink that takes all and never fails.
+    pub(crate) fn with_name(alloc: Global, name: String) -> MemSink
+        ensures { result ≡ record { held = []; piece = 2 ^ 64 - 1; fails = []; writes = 0; faults = 0; name = string_bytes name } }
+    {
+        MemSink {
+            held: Vec::new(alloc),
+            piece: usize::MAX,
+            fails: Vec::new(alloc),
+            writes: 0,
+            faults: 0,
+            name: Some(name),
+        }
+    }
+
+    // A sink that takes like this one, with another name, which holds nothing and has no fault.
+    pub(crate) fn like(&self, alloc: Global, name: String) -> Result<MemSink, AllocError>
+        ensures { IfOk result (λ k. k ≡ record self.now { held = []; faults = 0; name = string_bytes name }) }
+    {
+        Ok(MemSink {
+            held: Vec::new(alloc),
+            piece: self.piece,
+            fails: self.fails.to_vec(alloc)?,
+            writes: self.writes,
+            faults: 0,
+            name: Some(name),
+        })
+    }
+
+    pub(crate) fn name(&self) -> &str
+        ensures { result.now ≡ self.now.name }
+    {
+        match &self.name {
+            Some(name) => name.as_str(),
+            None => "",
+        }
+    }
+
+    pub(crate) fn faults(&self) -> u64
+        ensures { result ≡ self.now.faults }
+    {
+        self.faults
+    }
+
+    pub(crate) fn into_held(self) -> Vec<u8>
+        ensures { result.items ≡ self.held }
+    {
+        self.held
     }
 }
 

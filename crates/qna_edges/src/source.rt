@@ -70,24 +70,23 @@ impl MemSource {
         self.bytes.len() - self.at
     }
 
-    /// The bytes that are left.
     pub(crate) fn bytes(&self) -> &[u8]
         ensures { result.now ≡ self.now.left }
     {
         &self.bytes[self.at..]
     }
 
-    /// An equal source with another name.
-    pub(crate) fn named(&self, alloc: Global, name: String) -> Result<MemSource, AllocError>
-        ensures { IfOk result (λ s. s ≡ record self.now { name = string_bytes name }) }
+    // A source that reads like this one, with another name and no fault.
+    pub(crate) fn like(&self, alloc: Global, name: String) -> Result<MemSource, AllocError>
+        ensures { IfOk result (λ s. s ≡ record self.now { faults = 0; name = string_bytes name }) }
     {
         Ok(MemSource {
-            bytes: self.bytes[self.at..].to_vec(alloc)?,
+            bytes: self.bytes().to_vec(alloc)?,
             at: 0,
             piece: self.piece,
             fails: self.fails.to_vec(alloc)?,
             reads: self.reads,
-            faults: self.faults,
+            faults: 0,
             name: Some(name),
         })
     }
