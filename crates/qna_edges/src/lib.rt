@@ -2,6 +2,7 @@
 //! A call that blames a device does so only where a count rose.
 #![tactic(auto)]
 
+mod files;
 mod gate;
 mod mem_cabinet;
 mod outside;
@@ -11,6 +12,7 @@ mod source;
 mod status;
 mod tally;
 
+pub use files::{FileCabinet, FileSink, FileSource, StdoutSink};
 pub use gate::{Gate, OpenGate, Place};
 pub use mem_cabinet::MemCabinet;
 pub use outside::{Cabinet, Sink, Source};
@@ -18,3 +20,6 @@ pub use refused::{Failed, Refused};
 pub use sink::{MemSink, QuietSink, write_all};
 pub use source::{MemSource, QuietSource};
 pub use status::Status;
+
+#[cfg(test)]
+mod tests;
