@@ -1,5 +1,5 @@
 // Files and standard output, by std. What the system does with them no clause can say, so nothing here tells its bytes.
-ghost use Rattle.std.specs.Prelude.{◌≡◌, ◌<◌, ◌≤◌, ℕ, IsTrue, length, false, None, IfOk, OnOk, OnErr, IsErrOf};
+ghost use Rattle.std.specs.Prelude.{◌≡◌, ◌<◌, ◌≤◌, ℕ, List, IsTrue, length, false, None, IfOk, OnOk, OnErr, IsErrOf};
 ghost use Rattle.std.specs.Io.{ReadsAtMost};
 ghost use Rattle.qna_edges.specs.Memory.{next_number};
 ghost use Rattle.qna_edges.specs.Tally.{counts_of, has_room, no_faults};
@@ -89,7 +89,9 @@ pub struct StdoutSink {
 
 impl StdoutSink {
     /// Standard output as a sink, with an empty name.
-    pub fn new(out: Stdout) -> StdoutSink {
+    pub fn new(out: Stdout) -> StdoutSink
+        ensures { ⟦<StdoutSink as Sink>⟧.faults result ≡ 0 }
+    {
         StdoutSink { out, faults: 0 }
     }
 }
@@ -116,9 +118,17 @@ pub struct FileCabinet<R: Files + Drop> {
     tally: Tally,
 }
 
-impl<R: Files + Drop> FileCabinet<R> {
+impl<R: Files + Drop> FileCabinet<R>
+where
+    R::File: Send,
+{
     /// The files that `rt` reaches, none of which has failed so far.
-    pub fn new(rt: R, alloc: Global) -> FileCabinet<R> {
+    pub fn new(rt: R, alloc: Global) -> FileCabinet<R>
+        ensures opens { (n : List ℕ) → ⟦<FileCabinet<R> as Cabinet>⟧.open_faults result n ≡ 0 }
+        ensures creates { (n : List ℕ) → ⟦<FileCabinet<R> as Cabinet>⟧.create_faults result n ≡ 0 }
+        ensures reads { (n : List ℕ) → ⟦<FileCabinet<R> as Cabinet>⟧.read_faults result n ≡ 0 }
+        ensures writes { (n : List ℕ) → ⟦<FileCabinet<R> as Cabinet>⟧.write_faults result n ≡ 0 }
+    {
         FileCabinet {
             rt,
             alloc,

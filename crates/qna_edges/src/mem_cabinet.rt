@@ -1,6 +1,6 @@
 // Files in memory, by their names.
 ghost use Rattle.std.specs.Prelude.{◌≡◌, ◌≤◌, ◌+◌, ◌-◌, ◌^◌, ℕ, List, [], IsTrue, length, true, false, IfOk, IfSome, OnOk, OnErr, IsErrOf, Some, None};
-ghost use Rattle.std.specs.Option.{option_map};
+ghost use Rattle.std.specs.Option.{option_map, option_copied};
 ghost use Rattle.qna_edges.specs.Count.{Rose, capped};
 ghost use Rattle.qna_edges.specs.Names.{SameAtAll, SameAtOthers, StaysKnown};
 ghost use Rattle.qna_edges.specs.Memory.{fails_at, next_number};
@@ -112,15 +112,21 @@ impl MemCabinet {
     pub fn file(&self, name: &str) -> Option<&[u8]>
         ensures { option_map (λ bytes. bytes.now) result ≡ bytes_of self.now name.now }
     {
-        match self.shelves.get(name) {
-            Some(
-                Shelf {
-                    file: Some(file),
-                    ..
-                },
-            ) => Some(file.bytes()),
-            _ => None,
-        }
+        Some(self.standing(name)?.bytes())
+    }
+
+    // What stands under the name.
+    fn standing(&self, name: &str) -> Option<&MemSource>
+        ensures { option_copied result ≡ file_of self.now name.now }
+    {
+        self.shelves.get(name)?.file.as_ref()
+    }
+
+    // The sink that was planned for the name.
+    fn planned(&self, name: &str) -> Option<&MemSink>
+        ensures { option_copied result ≡ plan_of self.now name.now }
+    {
+        self.shelves.get(name)?.plan.as_ref()
     }
 
     // Takes the room for what stands under a name.
@@ -171,17 +177,12 @@ impl MemCabinet {
     fn source_of(&self, name: &str) -> Result<Option<MemSource>, AllocError>
         ensures { IfOk result (λ source. source ≡ option_map (λ file. opened file name.now) (file_of self.now name.now)) }
     {
-        match self.shelves.get(name) {
-            Some(
-                Shelf {
-                    file: Some(file),
-                    ..
-                },
-            ) => {
-                let name = String::from_str(self.alloc, name)?;
-                Ok(Some(file.like(self.alloc, name)?))
+        match self.standing(name) {
+            Some(file) => {
+                let own = String::from_str(self.alloc, name)?;
+                Ok(Some(file.like(self.alloc, own)?))
             }
-            _ => Ok(None),
+            None => Ok(None),
         }
     }
 
@@ -190,14 +191,9 @@ impl MemCabinet {
         ensures { IfOk result (λ sink. sink ≡ created (plan_of self.now name.now) name.now) }
     {
         let own = String::from_str(self.alloc, name)?;
-        match self.shelves.get(name) {
-            Some(
-                Shelf {
-                    plan: Some(plan),
-                    ..
-                },
-            ) => plan.like(self.alloc, own),
-            _ => Ok(MemSink::with_name(self.alloc, own)),
+        match self.planned(name) {
+            Some(plan) => plan.like(self.alloc, own),
+            None => Ok(MemSink::with_name(self.alloc, own)),
         }
     }
 }

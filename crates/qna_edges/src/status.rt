@@ -25,17 +25,11 @@ pub enum Status {
 }
 
 impl Status {
+    ghost use Rattle.qna_edges.specs.Status.{number_of};
+
     /// The exit status, from 0 to 8.
     pub fn number(self) -> u8
-        ensures done { self ≡ Status.Done → result ≡ 0 }
-        ensures memory { self ≡ Status.Memory → result ≡ 1 }
-        ensures usage { self ≡ Status.Usage → result ≡ 2 }
-        ensures plan { self ≡ Status.PlanFault → result ≡ 3 }
-        ensures open { self ≡ Status.OpenFault → result ≡ 4 }
-        ensures read { self ≡ Status.ReadFault → result ≡ 5 }
-        ensures write { self ≡ Status.WriteFault → result ≡ 6 }
-        ensures check { self ≡ Status.CheckNo → result ≡ 7 }
-        ensures too_much { self ≡ Status.TooMuch → result ≡ 8 }
+        ensures { result ≡ number_of self }
     {
         match self {
             Status::Done => 0,
