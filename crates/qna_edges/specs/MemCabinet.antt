@@ -1,0 +1,83 @@
+-- Files in memory by their names, as contracts see them.
+use Rattle.std.specs.Prelude.{ℕ, ◌+◌, ◌-◌, ◌^◌, ◌||◌, List, [], Bool, IsTrue, is_some, is_none, unwrap_or, None, Some, length}
+use Rattle.std.specs.Option.{option_map}
+use Rattle.std.specs.declared.option.Option.{Option}
+use Rattle.std.specs.BTreeMap.{get_by_text}
+use Rattle.qna_edges.specs.Memory.{Supply, Store, fails_at, next_number}
+use Rattle.qna_edges.specs.Tally.{counts_of, has_room}
+use Rattle.qna_edges.specs.declared.tally.Counts.{Counts}
+use Rattle.qna_edges.specs.declared.mem_cabinet.Shelf.{Shelf}
+use Rattle.qna_edges.specs.declared.mem_cabinet.MemCabinet.{MemCabinet}
+
+-- what stands under a name, and what was named for it
+abbrev pub shelf_of : MemCabinet → List ℕ → Shelf
+shelf_of cabinet name = unwrap_or (get_by_text cabinet.shelves name) (record { file = None; plan = None; rest = 0 })
+
+-- whether there is room for what stands under a name
+abbrev pub has_shelf : MemCabinet → List ℕ → Bool
+has_shelf cabinet name = is_some (get_by_text cabinet.shelves name)
+
+-- the source that gives a name's bytes
+abbrev pub file_of : MemCabinet → List ℕ → Option Supply
+file_of cabinet name = (shelf_of cabinet name).file
+
+-- the bytes under a name
+abbrev pub bytes_of : MemCabinet → List ℕ → Option (List ℕ)
+bytes_of cabinet name = option_map (λ file. file.left) (file_of cabinet name)
+
+-- the sink that was named for a name
+abbrev pub plan_of : MemCabinet → List ℕ → Option Store
+plan_of cabinet name = (shelf_of cabinet name).plan
+
+-- how many bytes the last source of a name that came back had left
+abbrev pub rest_of : MemCabinet → List ℕ → ℕ
+rest_of cabinet name = (shelf_of cabinet name).rest
+
+-- the counts of a name's faults
+abbrev pub faults_of : MemCabinet → List ℕ → Counts
+faults_of cabinet name = counts_of cabinet.tally name
+
+abbrev pub open_faults_of : MemCabinet → List ℕ → ℕ
+open_faults_of cabinet name = (faults_of cabinet name).opens
+
+abbrev pub create_faults_of : MemCabinet → List ℕ → ℕ
+create_faults_of cabinet name = (faults_of cabinet name).creates
+
+abbrev pub read_faults_of : MemCabinet → List ℕ → ℕ
+read_faults_of cabinet name = (faults_of cabinet name).reads
+
+abbrev pub write_faults_of : MemCabinet → List ℕ → ℕ
+write_faults_of cabinet name = (faults_of cabinet name).writes
+
+-- the cabinet has room for a name's counts and for its file
+abbrev pub Knows : MemCabinet → List ℕ → Type 0
+Knows cabinet name = IsTrue (has_room cabinet.tally name) × IsTrue (has_shelf cabinet name)
+
+-- how often `open` and `create` were called, those that answered want of memory left out
+abbrev pub calls_of : MemCabinet → ℕ
+calls_of cabinet = cabinet.calls
+
+-- the numbers of the calls of `open` and `create` that fail
+abbrev pub fails_of : MemCabinet → List ℕ
+fails_of cabinet = cabinet.fails.items
+
+-- whether the next call of `open` or `create` is one of those that fail
+abbrev pub next_fails : MemCabinet → Bool
+next_fails cabinet = fails_at (fails_of cabinet) (next_number (calls_of cabinet))
+
+-- whether opening a name fails now: the call is listed, or nothing stands there
+abbrev pub open_fails : MemCabinet → List ℕ → Bool
+open_fails cabinet name = next_fails cabinet || is_none (file_of cabinet name)
+
+-- the source that `open` gives of what stands under a name: the same, with this name and no fault
+abbrev pub opened : Supply → List ℕ → Supply
+opened file name = record file { faults = 0; name = name }
+
+-- the sink that `create` gives: as the plan says, or one that takes all and never fails; it has this name, holds nothing and has no fault
+abbrev pub created : Option Store → List ℕ → Store
+created None name = record { held = []; piece = 2 ^ 64 - 1; fails = []; writes = 0; faults = 0; name = name }
+created (Some plan) name = record plan { held = []; faults = 0; name = name }
+
+-- the file that stands where a sink came back with these bytes: they are given whole, and no read fails
+abbrev pub kept : List ℕ → Supply
+kept bytes = record { left = bytes; piece = 2 ^ 64 - 1; fails = []; reads = 0; faults = 0; name = [] }
