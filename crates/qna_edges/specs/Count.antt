@@ -1,5 +1,5 @@
 -- Counts of faults: they never fall, and they stand still at the end of 64 bits.
-use Rattle.std.specs.Prelude.{◌≡◌, ℕ, ◌+◌, ◌-◌, ◌^◌, ◌≤◌, min, max, Result, OnErr}
+use Rattle.std.specs.Prelude.{ℕ, ◌+◌, ◌-◌, ◌^◌, ◌≤◌, min, max, Result, OnErr}
 
 -- the greatest value of a count
 abbrev pub last_count : ℕ

@@ -1,5 +1,5 @@
 -- Files in memory by their names, as contracts see them.
-use Rattle.std.specs.Prelude.{ℕ, ◌+◌, ◌-◌, ◌^◌, ◌||◌, List, [], Bool, IsTrue, is_some, is_none, unwrap_or, None, Some, length}
+use Rattle.std.specs.Prelude.{ℕ, ◌-◌, ◌^◌, ◌||◌, List, [], Bool, IsTrue, is_some, is_none, unwrap_or, None, Some}
 use Rattle.std.specs.Option.{option_map}
 use Rattle.std.specs.declared.option.Option.{Option}
 use Rattle.std.specs.BTreeMap.{get_by_text}
