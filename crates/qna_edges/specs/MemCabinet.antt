@@ -37,15 +37,19 @@ rest_of cabinet name = (shelf_of cabinet name).rest
 abbrev pub faults_of : MemCabinet → List ℕ → Counts
 faults_of cabinet name = counts_of cabinet.tally name
 
+-- how often opening it failed
 abbrev pub open_faults_of : MemCabinet → List ℕ → ℕ
 open_faults_of cabinet name = (faults_of cabinet name).opens
 
+-- how often creating it failed
 abbrev pub create_faults_of : MemCabinet → List ℕ → ℕ
 create_faults_of cabinet name = (faults_of cabinet name).creates
 
+-- how often a read from it failed
 abbrev pub read_faults_of : MemCabinet → List ℕ → ℕ
 read_faults_of cabinet name = (faults_of cabinet name).reads
 
+-- how often a write to it failed
 abbrev pub write_faults_of : MemCabinet → List ℕ → ℕ
 write_faults_of cabinet name = (faults_of cabinet name).writes
 
