@@ -1,11 +1,7 @@
 -- Counts of faults: they never fall, and they stand still at the end of 64 bits.
-use Rattle.std.specs.Prelude.{◌≡◌, ℕ, ◌+◌, ◌-◌, ◌^◌, ◌≤◌, min, max, Result, OnErr}
+use Rattle.std.specs.Prelude.{ℕ, ◌+◌, ◌-◌, ◌^◌, ◌≤◌, min, max, Result, OnErr}
 
--- the greatest value of a count
-abbrev pub last_count : ℕ
-last_count = 2 ^ 64 - 1
-
--- a count rose: it is greater than before, or stands at its last value
+-- a count rose: it is greater than before, or stands at its last value, 2^64 - 1
 abbrev pub Rose : ℕ → ℕ → Type 0
 Rose before now = min (before + 1) (2 ^ 64 - 1) ≤ now
 

@@ -1,5 +1,5 @@
 -- Files in memory by their names, as contracts see them.
-use Rattle.std.specs.Prelude.{ℕ, ◌+◌, ◌-◌, ◌^◌, ◌||◌, List, [], Bool, IsTrue, is_some, is_none, unwrap_or, None, Some, length}
+use Rattle.std.specs.Prelude.{ℕ, ◌-◌, ◌^◌, ◌||◌, List, [], Bool, IsTrue, is_some, is_none, unwrap_or, None, Some}
 use Rattle.std.specs.Option.{option_map}
 use Rattle.std.specs.declared.option.Option.{Option}
 use Rattle.std.specs.BTreeMap.{get_by_text}
@@ -37,15 +37,19 @@ rest_of cabinet name = (shelf_of cabinet name).rest
 abbrev pub faults_of : MemCabinet → List ℕ → Counts
 faults_of cabinet name = counts_of cabinet.tally name
 
+-- how often opening it failed
 abbrev pub open_faults_of : MemCabinet → List ℕ → ℕ
 open_faults_of cabinet name = (faults_of cabinet name).opens
 
+-- how often creating it failed
 abbrev pub create_faults_of : MemCabinet → List ℕ → ℕ
 create_faults_of cabinet name = (faults_of cabinet name).creates
 
+-- how often a read from it failed
 abbrev pub read_faults_of : MemCabinet → List ℕ → ℕ
 read_faults_of cabinet name = (faults_of cabinet name).reads
 
+-- how often a write to it failed
 abbrev pub write_faults_of : MemCabinet → List ℕ → ℕ
 write_faults_of cabinet name = (faults_of cabinet name).writes
 

@@ -11,6 +11,7 @@ pub enum Place {
 
 /// What each party calls at a place. It changes nothing that a contract names.
 pub trait Gate: Sync {
+    /// Party `party` (desks from 1, workers from 17) is at `place`.
     fn at(&self, party: u16, place: Place);
 }
 

@@ -56,8 +56,10 @@ pub trait Sink: Send + Drop {
 
 /// Files by their names, and the counts of their faults.
 pub trait Cabinet {
+    /// What `open` gives, and `back_in` takes back.
     type In: Source;
 
+    /// What `create` gives, and `back_out` takes back.
     type Out: Sink;
 
     /// How often the opening of each name failed.
