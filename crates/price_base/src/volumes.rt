@@ -1,4 +1,6 @@
-ghost use Rattle.std.specs.Prelude.{◌≡◌, ◌≢◌, ◌≤◌, ◌<◌, ◌^◌, ◌+◌, ◌*◌, ◌%◌, ℕ, pos, ◌*ℤ◌, ◌+ℤ◌, ◌<ℤ◌, ◌≤ℤ◌, unsigned_abs, length, slice_get, slice_index_or, IfSome, nat_le, ◌&&◌};
+ghost use Rattle.std.specs.Prelude.{◌≡◌, ◌≢◌, ◌≤◌, ◌<◌, ◌^◌, ◌+◌, ◌*◌, ◌%◌, ℕ, pos, ◌*ℤ◌, ◌+ℤ◌, ◌<ℤ◌, ◌≤ℤ◌, unsigned_abs, length, slice_get, slice_index_or, IfSome, nat_le, ◌&&◌, ◌⊎◌};
+ghost use Rattle.std.specs.List.{All};
+ghost use Rattle.price_base.specs.Cells.{IsFlow};
 ghost use Rattle.ratio_arith.specs.Division.{round_of};
 ghost use Rattle.price_base.specs.Volumes.{IsPrice, IsSoldInRange, IsBaseInRange, quantity_of, is_small, are_small, sold_of, sold_at, base_from, base_of, base_at, base_start, volume_within, volume_of, volumes_of};
 
@@ -239,4 +241,39 @@ fn base_at_quarter(x: &[i128], price: &[Option<u32>], quarter: usize) -> Option<
         sold(x, price, start + 2),
         sold(x, price, start + 3),
     )
+}
+
+/// The base of a quarter's year: made at the year's first quarter, and kept for the others.
+fn base_for(x: &[i128], price: &[Option<u32>], quarter: usize, kept: Option<Base>) -> Option<Base>
+    requires sizes { (k : ℕ) → unsigned_abs (slice_index_or x.now k (pos 0)) ≤ 10 ^ 24 }
+    requires prices { (k : ℕ) → IfSome (slice_index_or price.now k None) IsPrice }
+    requires quarter { quarter < 512 }
+    requires kept { (quarter % 4 ≡ 0) ⊎ (kept ≡ base_at x.now price.now (base_start quarter)) }
+    requires range { IfSome kept IsBaseInRange }
+    ensures base { result ≡ base_at x.now price.now (base_start quarter) }
+    ensures range { IfSome result IsBaseInRange }
+{
+    if quarter.is_multiple_of(4) { base_at_quarter(x, price, quarter) } else { kept }
+}
+
+/// Writes a leaf's volumes at previous-year prices, quarter by quarter from a year's first quarter on: its quantity times the average price of the
+/// base, which is the year before, and for the first year itself (chapter 8 of the IMF Quarterly National Accounts Manual, 2017; the quantities, the
+/// first year's base and the ranges are this product's own). The cell is, in this order, `Missing` where the quarter or one of the base's quarters has
+/// no value or no price; `Range` where one of the quantities or the base's value passes 10^15; `NoBase` where the base's quantity is not above zero;
+/// `Range` where the volume passes 10^15; else the volume. The values `x` are in whole currency units, within 10^24; a price is 1 to 10^9; the three
+/// slices are equally long, at most 512.
+pub fn at_previous_prices(x: &[i128], price: &[Option<u32>], out: &mut [Cell])
+    requires sizes { (k : ℕ) → unsigned_abs (slice_index_or x.now k (pos 0)) ≤ 10 ^ 24 }
+    requires prices { (k : ℕ) → IfSome (slice_index_or price.now k None) IsPrice }
+    requires as_many_prices { length price.now ≡ length x.now }
+    requires as_many_cells { length out.old ≡ length x.now }
+    requires quarters { length x.now ≤ 512 }
+    ensures cells { out.new ≡ volumes_of x.now price.now }
+    ensures flows { All IsFlow out.new }
+{
+    let mut base = None;
+    for quarter in 0..out.len() {
+        base = base_for(x, price, quarter, base);
+        out[quarter] = volume(base, sold(x, price, quarter));
+    }
 }
