@@ -33,6 +33,8 @@ pub struct Base {
     pub small: bool,
 }
 
+mod flows;
 mod volumes;
 
-pub use volumes::{quantity};
+pub use flows::{Cells, NodeFlows};
+pub use volumes::{at_previous_prices, quantity};
