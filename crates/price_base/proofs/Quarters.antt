@@ -1,5 +1,5 @@
 -- Steps of the loop over quarters, and what the cells that it writes are.
-use Rattle.std.proofs.Common.{◌≡◌, ◌≢◌, ℕ, zero, suc, ◌+◌, ◌-◌, ◌*◌, ◌/◌, ◌%◌, ◌<◌, ◌≤◌, ◌⊎◌, inl, inr, ℤ, pos, ◌*ℤ◌, set, Bool, true, false, cond, if◌then◌else◌, List, map, length, get_or, arith, ap, ◌∙◌, sym, refl, int_le}
+use Rattle.std.proofs.Common.{◌≡◌, ◌≢◌, ℕ, zero, suc, ◌+◌, ◌%◌, ◌<◌, ◌≤◌, ◌⊎◌, inl, inr, ℤ, pos, ◌*ℤ◌, set, Bool, true, false, if◌then◌else◌, List, [], ◌∷◌, length, get_or, arith, ap, ◌∙◌, int_le}
 use Rattle.std.specs.Prelude.{Option, Some, None, ◌&&◌}
 use Rattle.std.specs.List.{All, range_with_len}
 use Rattle.std.proofs.lemmas.List.Elements.{All-map}
@@ -54,3 +54,9 @@ quarter_flow values prices t = volume_flow (base_at values prices (base_start t)
 pub volumes_flow : (values : List ℤ) (prices : List (Option ℕ)) → All IsFlow (volumes_of values prices)
 unfolding volumes_of
 volumes_flow values prices = All-map IsFlow (volume_at values prices) (range_with_len 0 (length values)) (λ k d below. quarter_flow values prices (get_or (range_with_len 0 (length values)) k d))
+
+-- what holds of each element and of the default holds at each index
+pub at_each_index : {X : Type 0} (P : X → Type 0) (xs : List X) (d : X) → All P xs → P d → (k : ℕ) → P (get_or xs k d)
+at_each_index P [] d all own k = own
+at_each_index P (x ∷ xs) d all own zero = all zero d (omega arith)
+at_each_index P (x ∷ xs) d all own (suc k) = at_each_index P xs d (λ j e below. all (suc j) e (omega arith)) own k

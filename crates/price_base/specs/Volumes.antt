@@ -1,10 +1,10 @@
 -- Volumes at previous-year prices of a leaf, after chapter 8 of the IMF Quarterly National Accounts Manual (2017): a quarter's quantity at the average
 -- price of the year before. The quantity of a leaf, its ranges and the base of the first year are this product's own.
-use Rattle.std.specs.Prelude.{◌≡◌, ℕ, ◌+◌, ◌-◌, ◌*◌, ◌/◌, ◌^◌, ◌≤◌, ℤ, pos, ◌+ℤ◌, ◌*ℤ◌, int_le, nat_le, Bool, true, false, IsTrue, ◌&&◌, if◌then◌else◌, List, map, length, slice_get, slice_index_or, unsigned_abs, Option, Some, None}
+use Rattle.std.specs.Prelude.{ℕ, ◌+◌, ◌-◌, ◌*◌, ◌/◌, ◌^◌, ◌≤◌, ℤ, pos, ◌+ℤ◌, ◌*ℤ◌, int_le, nat_le, Bool, IsTrue, ◌&&◌, if◌then◌else◌, List, map, length, slice_get, slice_index_or, unsigned_abs, Option, Some, None}
 use Rattle.std.specs.List.{range_with_len}
 use Rattle.ratio_arith.specs.Division.{round_of}
 use Rattle.price_base.specs.declared.Cell.{Cell}
-use Rattle.price_base.specs.declared.Cell.TheVariants.{Missing, Value, NoBase, NoLink, Range}
+use Rattle.price_base.specs.declared.Cell.TheVariants.{Missing, Value, NoBase, Range}
 use Rattle.price_base.specs.declared.Sold.{Sold}
 use Rattle.price_base.specs.declared.Base.{Base}
 
@@ -35,9 +35,9 @@ sold_at values prices t = sold_of (slice_get values t) (slice_index_or prices t 
 -- a year's value and quantity, and whether its value and the quantities of its quarters are small
 abbrev pub base_from : Sold → Sold → Sold → Sold → Base
 base_from a b c d = record {
-    value = a.value +ℤ b.value +ℤ c.value +ℤ d.value;
-    quantity = a.quantity +ℤ b.quantity +ℤ c.quantity +ℤ d.quantity;
-    small = is_small (a.value +ℤ b.value +ℤ c.value +ℤ d.value) && are_small a.quantity b.quantity c.quantity d.quantity
+  value = a.value +ℤ b.value +ℤ c.value +ℤ d.value;
+  quantity = a.quantity +ℤ b.quantity +ℤ c.quantity +ℤ d.quantity;
+  small = is_small (a.value +ℤ b.value +ℤ c.value +ℤ d.value) && are_small a.quantity b.quantity c.quantity d.quantity;
 }
 
 -- the sizes of what is sold in a quarter

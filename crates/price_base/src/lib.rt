@@ -1,8 +1,6 @@
 //! Cells of quarterly and yearly figures, and a leaf's volumes at previous-year prices.
 #![tactic(auto)]
 
-
-
 /// One figure of an item for a quarter or a year, or the mark that says why there is none.
 #[derive(Clone, Copy, Debug, PartialEq, Eq)]
 pub enum Cell {
@@ -38,3 +36,6 @@ mod volumes;
 
 pub use flows::{Cells, NodeFlows};
 pub use volumes::{at_previous_prices, quantity};
+
+#[cfg(test)]
+mod tests;

@@ -36,7 +36,11 @@ fn price_at(price: &[Option<u32>], quarter: usize) -> Option<u32>
     ensures price { result ≡ slice_index_or price.now quarter None }
     ensures range { IfSome result IsPrice }
 {
-    if quarter < price.len() { price[quarter] } else { None }
+    if quarter < price.len() {
+        price[quarter]
+    } else {
+        None
+    }
 }
 
 /// What is sold in a quarter, where its value and its price are there.
@@ -111,14 +115,25 @@ fn year_quantity(first: Sold, second: Sold, third: Sold, fourth: Sold) -> i128
     ensures value { result ≡ first.quantity +ℤ second.quantity +ℤ third.quantity +ℤ fourth.quantity }
     ensures size { unsigned_abs result ≤ 4 * 10 ^ 30 }
 {
-    sum_of(first.quantity, second.quantity, third.quantity, fourth.quantity)
+    sum_of(
+        first.quantity,
+        second.quantity,
+        third.quantity,
+        fourth.quantity,
+    )
 }
 
 /// Whether a year's value and its four quantities are small.
 fn is_small_year(value: i128, first: Sold, second: Sold, third: Sold, fourth: Sold) -> bool
     ensures small { result ≡ (is_small value && are_small first.quantity second.quantity third.quantity fourth.quantity) }
 {
-    is_small_number(value) && are_four_small(first.quantity, second.quantity, third.quantity, fourth.quantity)
+    is_small_number(value)
+        && are_four_small(
+            first.quantity,
+            second.quantity,
+            third.quantity,
+            fourth.quantity,
+        )
 }
 
 /// The base that four quarters make.
@@ -133,11 +148,20 @@ fn base_made(first: Sold, second: Sold, third: Sold, fourth: Sold) -> Base
     let value = year_value(first, second, third, fourth);
     let quantity = year_quantity(first, second, third, fourth);
     let small = is_small_year(value, first, second, third, fourth);
-    Base { value, quantity, small }
+    Base {
+        value,
+        quantity,
+        small,
+    }
 }
 
 /// The base of four quarters, where each has a value and a price.
-fn base_year(first: Option<Sold>, second: Option<Sold>, third: Option<Sold>, fourth: Option<Sold>) -> Option<Base>
+fn base_year(
+    first: Option<Sold>,
+    second: Option<Sold>,
+    third: Option<Sold>,
+    fourth: Option<Sold>,
+) -> Option<Base>
     requires first { IfSome first IsSoldInRange }
     requires second { IfSome second IsSoldInRange }
     requires third { IfSome third IsSoldInRange }
@@ -146,7 +170,9 @@ fn base_year(first: Option<Sold>, second: Option<Sold>, third: Option<Sold>, fou
     ensures range { IfSome result IsBaseInRange }
 {
     match (first, second, third, fourth) {
-        (Some(first), Some(second), Some(third), Some(fourth)) => Some(base_made(first, second, third, fourth)),
+        (Some(first), Some(second), Some(third), Some(fourth)) => Some(base_made(
+            first, second, third, fourth,
+        )),
         _ => None,
     }
 }
@@ -155,7 +181,11 @@ fn base_year(first: Option<Sold>, second: Option<Sold>, third: Option<Sold>, fou
 fn cell_within(volume: i128) -> Cell
     ensures cell { result ≡ volume_within volume }
 {
-    if is_small_number(volume) { Cell::Value(volume) } else { Cell::Range }
+    if is_small_number(volume) {
+        Cell::Value(volume)
+    } else {
+        Cell::Range
+    }
 }
 
 /// The product of two small numbers.
@@ -253,7 +283,11 @@ fn base_for(x: &[i128], price: &[Option<u32>], quarter: usize, kept: Option<Base
     ensures base { result ≡ base_at x.now price.now (base_start quarter) }
     ensures range { IfSome result IsBaseInRange }
 {
-    if quarter.is_multiple_of(4) { base_at_quarter(x, price, quarter) } else { kept }
+    if quarter.is_multiple_of(4) {
+        base_at_quarter(x, price, quarter)
+    } else {
+        kept
+    }
 }
 
 /// Writes a leaf's volumes at previous-year prices, quarter by quarter from a year's first quarter on: its quantity times the average price of the
@@ -263,8 +297,8 @@ fn base_for(x: &[i128], price: &[Option<u32>], quarter: usize, kept: Option<Base
 /// `Range` where the volume passes 10^15; else the volume. The values `x` are in whole currency units, within 10^24; a price is 1 to 10^9; the three
 /// slices are equally long, at most 512.
 pub fn at_previous_prices(x: &[i128], price: &[Option<u32>], out: &mut [Cell])
-    requires sizes { (k : ℕ) → unsigned_abs (slice_index_or x.now k (pos 0)) ≤ 10 ^ 24 }
-    requires prices { (k : ℕ) → IfSome (slice_index_or price.now k None) IsPrice }
+    requires sizes { All (λ value. unsigned_abs value ≤ 10 ^ 24) x.now }
+    requires prices { All (λ price. IfSome price IsPrice) price.now }
     requires as_many_prices { length price.now ≡ length x.now }
     requires as_many_cells { length out.old ≡ length x.now }
     requires quarters { length x.now ≤ 512 }

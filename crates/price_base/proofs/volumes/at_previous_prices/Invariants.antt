@@ -9,5 +9,5 @@ invariant-loop-quarter l = record {
   written : (k : ℕ) → k < l.quarter → get_or l.out k Missing ≡ volume_at l.x l.price k;
   kept : (l.quarter % 4 ≡ 0) ⊎ (l.base ≡ base_at l.x l.price (base_start l.quarter));
   range : IfSome l.base IsBaseInRange;
-  as_many : length l.out ≡ length l.x
+  as_many : length l.out ≡ length l.x;
 }
