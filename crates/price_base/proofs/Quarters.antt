@@ -1,10 +1,10 @@
 -- Steps of the loop over quarters, and what the cells that it writes are.
-use Rattle.std.proofs.Common.{◌≡◌, ◌≢◌, ℕ, zero, suc, ◌+◌, ◌%◌, ◌<◌, ◌≤◌, ◌⊎◌, inl, inr, ℤ, pos, ◌*ℤ◌, set, Bool, true, false, if◌then◌else◌, List, [], ◌∷◌, length, get_or, arith, ap, ◌∙◌, int_le}
+use Rattle.std.proofs.Common.{map, ◌≡◌, ◌≢◌, ℕ, zero, suc, ◌+◌, ◌%◌, ◌<◌, ◌≤◌, ◌⊎◌, inl, inr, ℤ, pos, ◌*ℤ◌, set, Bool, true, false, if◌then◌else◌, List, [], ◌∷◌, length, get_or, arith, ap, ◌∙◌, int_le}
 use Rattle.std.specs.Prelude.{Option, Some, None, ◌&&◌}
 use Rattle.std.specs.List.{All, range_with_len}
 use Rattle.std.proofs.lemmas.List.Elements.{All-map}
 use Rattle.std.proofs.lemmas.List.Edits.{fill_by_more}
-use Rattle.std.proofs.lemmas.List.FromFn.{fill_by_all}
+use Rattle.std.proofs.lemmas.List.FromFn.{fill_by_all, length-map-range_with_len, get_or-map-range_with_len}
 use Rattle.ratio_arith.specs.Division.{round_of}
 use Rattle.price_base.specs.declared.Cell.{Cell}
 use Rattle.price_base.specs.declared.Cell.TheVariants.{Missing, Value, NoBase, NoLink, Range}
@@ -60,3 +60,17 @@ pub at_each_index : {X : Type 0} (P : X → Type 0) (xs : List X) (d : X) → Al
 at_each_index P [] d all own k = own
 at_each_index P (x ∷ xs) d all own zero = all zero d (omega arith)
 at_each_index P (x ∷ xs) d all own (suc k) = at_each_index P xs d (λ j e below. all (suc j) e (omega arith)) own k
+
+-- a leaf has as many volume cells as values
+pub length-volumes_of : (values : List ℤ) (prices : List (Option ℕ)) → length (volumes_of values prices) ≡ length values
+unfolding volumes_of
+length-volumes_of values prices = length-map-range_with_len (volume_at values prices) 0 (length values)
+
+-- the volume cell of one quarter
+pub get_or-volumes_of : (values : List ℤ) (prices : List (Option ℕ)) (t : ℕ) → t < length values → get_or (volumes_of values prices) t Missing ≡ volume_at values prices t
+unfolding volumes_of
+get_or-volumes_of values prices t below = get_or-map-range_with_len (volume_at values prices) 0 (length values) t t Missing below (omega arith)
+
+-- no value is the mark of a link
+pub values_flow : (values : List ℤ) → All IsFlow (map Value values)
+values_flow values = All-map IsFlow Value values (λ k d below e. cc)

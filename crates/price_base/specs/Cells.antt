@@ -12,6 +12,7 @@ cell_at cells t = slice_index_or cells t Missing
 abbrev pub IsFlow : Cell → Type 0
 IsFlow cell = cell ≢ NoLink
 
+-- tests for the three marks of flows
 abbrev pub is_missing : Cell → Bool
 is_missing Missing = true
 is_missing _ = false

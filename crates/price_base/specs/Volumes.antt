@@ -29,6 +29,7 @@ abbrev pub sold_of : Option ℤ → Option ℕ → Option Sold
 sold_of (Some value) (Some price) = Some (record { value = value; quantity = quantity_of value price })
 sold_of value price = None
 
+-- what is sold in the quarter t of a leaf
 abbrev pub sold_at : List ℤ → List (Option ℕ) → ℕ → Option Sold
 sold_at values prices t = sold_of (slice_get values t) (slice_index_or prices t None)
 
@@ -53,6 +54,7 @@ abbrev pub base_of : Option Sold → Option Sold → Option Sold → Option Sold
 base_of (Some a) (Some b) (Some c) (Some d) = Some (base_from a b c d)
 base_of a b c d = None
 
+-- the base that the four quarters from a leaf's quarter start on make
 abbrev pub base_at : List ℤ → List (Option ℕ) → ℕ → Option Base
 base_at values prices start =
     base_of (sold_at values prices start) (sold_at values prices (start + 1)) (sold_at values prices (start + 2)) (sold_at values prices (start + 3))
@@ -73,6 +75,7 @@ volume_of (Some base) (Some own) =
     else Range
 volume_of base own = Missing
 
+-- the volume cell of the quarter t of a leaf
 abbrev pub volume_at : List ℤ → List (Option ℕ) → ℕ → Cell
 volume_at values prices t = volume_of (base_at values prices (base_start t)) (sold_at values prices t)
 
