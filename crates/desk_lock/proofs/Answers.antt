@@ -1,5 +1,5 @@
 -- What the calls need of the lemmas on steps, where a seat is known up to an equation.
-use Rattle.std.proofs.Common.{◌≡◌, ◌⊎◌, ℕ, ◌+◌, ◌%◌, ◌^◌, ◌<◌, ◌≤◌, ◌==◌, Bool, true, false, List, [], ◌∷◌, ◌++◌, length, Some, None, Option, MatchBool, refl, sym, ap, ◌∙◌, subst, inl, inr, arith, true≢false, eq-eqb, unwrap_or}
+use Rattle.std.proofs.Common.{◌≡◌, ℕ, ◌+◌, ◌%◌, ◌^◌, ◌<◌, ◌≤◌, true, false, List, [], ◌∷◌, length, Some, None, Option, MatchBool, refl, sym, ap, ◌∙◌, subst, inl, inr, arith, true≢false, eq-eqb, unwrap_or}
 use mathlib.Core.Option.{some, none, some-injective}
 use mathlib.Core.List.{IsPrefix}
 use lib.ListN.{get_elem?}

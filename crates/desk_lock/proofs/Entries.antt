@@ -2,11 +2,10 @@
 use Rattle.std.proofs.Common.{◌≡◌, ℕ, ◌+◌, ◌%◌, ◌^◌, ◌<◌, ◌≤◌, Bool, true, false, List, [], ◌∷◌, ◌++◌, length, set, get_or, Some, Option, refl, sym, ap, ◌∙◌, subst, arith, length-append, unwrap_or}
 use mathlib.Core.Option.{some, none}
 use mathlib.Core.List.{IsPrefix}
-use lib.ListN.{get_elem?}
 use lib.Seq.{set-get_or}
 use Rattle.atomic_table.specs.Table.{State, step, keeps, Allows}
-use Rattle.desk_lock.specs.Passes.{entries_by, is_in}
-use Rattle.desk_lock.specs.Rules.{is_live, is_in_turn, seeing, adding, Tale, Queue, Fits, Stands, Home, Kept, Sat, Adds, Shows, Compares}
+use Rattle.desk_lock.specs.Passes.{entries_by}
+use Rattle.desk_lock.specs.Rules.{is_live, seeing, adding, Queue, Fits, Stands, Home, Kept, Sat, Adds, Shows, Compares}
 use Rattle.desk_lock.specs.declared.plays.View.{View}
 use Rattle.desk_lock.specs.declared.plays.Phase.{Phase}
 use Rattle.desk_lock.specs.declared.plays.Phase.TheVariants.{Spent, Resting, Waiting, Holding}

@@ -4,3 +4,4 @@ pub mod Turns
 pub mod Entries
 pub mod Meetings
 pub mod Answers
+pub mod Gathering

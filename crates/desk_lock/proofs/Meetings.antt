@@ -1,17 +1,15 @@
 -- The first seat, a seat cut in two, two seats made one, and the last state keep the rule.
-use Rattle.std.proofs.Common.{◌≡◌, ◌⊎◌, ℕ, zero, suc, ◌+◌, ◌%◌, ◌^◌, ◌<◌, ◌≤◌, ◌==◌, leb, Bool, true, false, cond, ◌||◌, List, [], ◌∷◌, ◌++◌, length, set, Some, None, Option, refl, sym, ap, ◌∙◌, subst, ⊎_elim, inl, inr, arith, append-nil, true≢false, eq-eqb, ne_eqb, eqb-true}
+use Rattle.std.proofs.Common.{◌≡◌, ℕ, zero, suc, ◌<◌, ◌==◌, leb, Bool, true, false, cond, ◌||◌, List, [], ◌∷◌, ◌++◌, length, set, Some, Option, refl, sym, ap, ◌∙◌, subst, ⊎_elim, arith, append-nil, true≢false, eq-eqb, ne_eqb, eqb-true}
 use Rattle.std.proofs.lemmas.Bool.{false_from_ne_true}
 use mathlib.Core.Option.{some, none, some-injective, some-ne-none}
 use mathlib.Core.Option as maybe
-use mathlib.Core.List.{IsPrefix}
 use lib.ListN.{get_elem?}
 use Rattle.atomic_table.specs.Table.{State, opening, Splits, Joins, Final, Seen}
 use Rattle.atomic_table.proofs.Lists.{set_else, at_longer}
 use Rattle.desk_lock.specs.Passes.{Account, is_in, is_named, entries_under, all_named, entries_by, longer}
-use Rattle.desk_lock.specs.Rules.{is_live, is_in_turn, first_view, giving, newcomer, leaving, spent_view, joined, Tale, Queue, Fits, Stands, Home, InTurn, Holds, Kept}
+use Rattle.desk_lock.specs.Rules.{is_live, first_view, giving, newcomer, leaving, spent_view, joined, Tale, Queue, Fits, Stands, Home, InTurn, Holds, Kept}
 use Rattle.desk_lock.specs.declared.plays.View.{View}
-use Rattle.desk_lock.specs.declared.plays.Phase.{Phase}
-use Rattle.desk_lock.specs.declared.plays.Phase.TheVariants.{Spent, Resting, Waiting, Holding}
+use Rattle.desk_lock.specs.declared.plays.Phase.TheVariants.{Resting, Holding}
 use Rattle.desk_lock.proofs.Lists.{longer_meets, longer_has, by_none, by_between, all_seen, or_left, or_right, or_none, or_either, under_none, named-append, under-append, each_named, same_seat, at_append, seats_stay, put, put_here, put_else}
 use Rattle.desk_lock.proofs.Seats.{reowned, turn_stays, hold_stays}
 use Rattle.desk_lock.proofs.Turns.{known, out_of_turn, not_both}

@@ -10,8 +10,8 @@ use lib.Seq.{set-get_or}
 use Rattle.std_collections.proofs.IndexTableLemmas.Probe.{pigeonhole, Into, OneToOne}
 use Rattle.atomic_table.specs.Table.{State}
 use Rattle.atomic_table.proofs.Lists.{set_again}
-use Rattle.desk_lock.specs.Passes.{is_in, is_named, entries_under, entries_by}
-use Rattle.desk_lock.specs.Rules.{is_live, is_in_turn, Tale, Queue, Fits, Stands, InTurn, Holds, Kept}
+use Rattle.desk_lock.specs.Passes.{is_in, entries_by}
+use Rattle.desk_lock.specs.Rules.{is_live, is_in_turn, Tale, Fits, InTurn, Holds, Kept}
 use Rattle.desk_lock.specs.declared.plays.View.{View}
 use Rattle.desk_lock.specs.declared.plays.Phase.{Phase}
 use Rattle.desk_lock.specs.declared.plays.Phase.TheVariants.{Spent, Resting, Waiting, Holding}

@@ -1,5 +1,5 @@
 -- Drawing a ticket, taking the book, and ending the turn keep the rule.
-use Rattle.std.proofs.Common.{◌≡◌, ◌≢◌, ℕ, ◌+◌, ◌%◌, ◌^◌, ◌<◌, ◌≤◌, ◌==◌, Bool, true, false, List, [], ◌∷◌, ◌++◌, length, set, get_or, Some, None, Option, MatchBool, refl, sym, ap, ◌∙◌, subst, arith, true≢false, eqb-true, unwrap_or}
+use Rattle.std.proofs.Common.{◌≡◌, ℕ, ◌+◌, ◌%◌, ◌^◌, ◌<◌, ◌≤◌, ◌==◌, Bool, true, false, List, [], ◌∷◌, length, set, get_or, Some, Option, MatchBool, refl, sym, ap, ◌∙◌, subst, arith, true≢false, eqb-true, unwrap_or}
 use mathlib.Core.Logic.{dite}
 use mathlib.Core.Option.{some, none}
 use mathlib.Core.Option as maybe
@@ -9,7 +9,7 @@ use lib.ListN.{get_elem?}
 use lib.Seq.{set-get_or}
 use Rattle.atomic_table.specs.Table.{State, step, Act, keeps, takes, gives, Valid, stepped, carried_after, Allows}
 use Rattle.desk_lock.specs.Passes.{entries_by}
-use Rattle.desk_lock.specs.Rules.{is_live, is_in_turn, drawing, taking, seeing, adding, ending, Tale, Queue, Fits, Stands, Home, InTurn, Holds, Kept, Sat, Draws, Looks, Lent, Ends}
+use Rattle.desk_lock.specs.Rules.{is_live, is_in_turn, drawing, taking, ending, Queue, Fits, Stands, Home, InTurn, Holds, Kept, Sat, Draws, Looks, Lent, Ends}
 use Rattle.desk_lock.specs.declared.plays.View.{View}
 use Rattle.desk_lock.specs.declared.plays.Phase.{Phase}
 use Rattle.desk_lock.specs.declared.plays.Phase.TheVariants.{Spent, Resting, Waiting, Holding}

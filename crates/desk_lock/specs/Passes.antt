@@ -1,6 +1,6 @@
 -- Passes of a lock with a history, in the words in which the contracts speak of them.
 -- Each name here is this product's own.
-use Rattle.std.specs.Prelude.{◌≡◌, ◌⊎◌, ℕ, ◌==◌, leb, Bool, true, false, cond, ◌&&◌, ◌||◌, List, [], ◌∷◌, ◌++◌, length, filter, Option, Some, None}
+use Rattle.std.specs.Prelude.{◌≡◌, ◌⊎◌, ℕ, ◌≤◌, ◌==◌, leb, Bool, true, false, cond, ◌&&◌, ◌||◌, List, [], ◌∷◌, ◌++◌, length, filter, Option, Some}
 use Rattle.atomic_table.specs.Seated.{TableId}
 
 -- which lock it is: no two locks have one name
@@ -97,7 +97,17 @@ module _ {E L : Type 0} where
 
   -- the second is the first after its lock was closed
   abbrev pub IsClosed : Knowledge E L → Knowledge E L → Type 0
-  IsClosed k m = (m.live ≡ false) × (m.label ≡ k.label) × (m.party ≡ k.party) × (m.seen ≡ k.seen) × (m.ended ≡ k.ended) × (m.gives ≡ k.gives) × (m.given ≡ k.given)
+  IsClosed k m = (m.lock ≡ k.lock) × (m.live ≡ false) × (m.label ≡ k.label) × (m.party ≡ k.party) × (m.seen ≡ k.seen) × (m.ended ≡ k.ended) × (m.gives ≡ k.gives) × (m.given ≡ k.given)
+
+  -- the pass knows which parties were given, and none from this number on was
+  abbrev pub IsFreeFrom : ℕ → Knowledge E L → Type 0
+  IsFreeFrom n k = (k.gives ≡ true) × ((p : ℕ) → n ≤ p → is_in p k.given ≡ false)
+
+  -- The second came from the first by splits and joins, and each pass that was made between was joined again:
+  -- a party that was given since then ended in it
+  abbrev pub IsRegathered : Knowledge E L → Knowledge E L → Type 0
+  IsRegathered k m = (m.lock ≡ k.lock) × (m.live ≡ true) × (m.label ≡ k.label) × (m.party ≡ k.party) × (m.gives ≡ true)
+      × ((p : ℕ) → is_in p m.given ≡ true → (is_in p k.given ≡ true) ⊎ (is_named p m.ended ≡ true)) × ((p : ℕ) → is_named p k.ended ≡ true → is_named p m.ended ≡ true)
 
   -- what was seen meets the test beside the label
   abbrev pub IsTested : (L → List E → Type 0) → Knowledge E L → Type 0

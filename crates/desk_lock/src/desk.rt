@@ -80,6 +80,7 @@ impl<B: Story> Desk<B> {
         ensures label { Some (B.label result.book) ≡ pass.label }
         ensures begins { IsPrefix pass.seen (B.list result.book) }
         ensures own { entries_by B.party pass.party (B.list result.book) ≡ own B.party pass }
+        ensures tested { IsTested B.test pass }
         ensures base { result.base ≡ B.list result.book }
         ensures room { length (B.list result.book) ≤ 2 ^ 40 }
     {

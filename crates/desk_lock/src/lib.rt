@@ -11,6 +11,8 @@ mod lends;
 mod pass;
 mod plays;
 mod story;
+#[cfg(test)]
+mod tests;
 
 pub use desk::{Desk, Refused2};
 pub use held::Held;

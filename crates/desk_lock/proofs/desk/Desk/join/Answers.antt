@@ -1,4 +1,4 @@
-use Rattle.std.proofs.Common.{rules, ap, ◌∙◌}
+use Rattle.std.proofs.Common.{rules, ap}
 use Rattle.desk_lock.proofs.Answers.{pass_rests, joined_begins}
 use Rattle.desk_lock.proofs.Entries.{compares}
 use Rattle.desk_lock.proofs.Meetings.{joins}

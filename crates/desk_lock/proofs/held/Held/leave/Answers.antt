@@ -1,4 +1,4 @@
-use Rattle.std.proofs.Common.{rules, ap, ◌∙◌}
+use Rattle.std.proofs.Common.{rules}
 use Rattle.desk_lock.proofs.Answers.{may_end}
 use Rattle.desk_lock.proofs.held.Held.leave.Goals as goal
 
