@@ -3,5 +3,5 @@ pub mod Seats
 pub mod Turns
 pub mod Entries
 pub mod Meetings
-pub mod Answers
+pub mod Calls
 pub mod Gathering

@@ -83,19 +83,19 @@ module _ {E L : Type 0} where
   abbrev pub first_pass : LockName → L → ℕ → Knowledge E L
   first_pass lock label party = record { lock = lock; live = true; label = Some label; party = party; seen = []; ended = []; gives = true; given = party ∷ [] }
 
-  -- the first knows what the second does, but for what was seen
+  -- the second pass knows what the first does, but for what it has seen
   abbrev pub IsSameButSeen : Knowledge E L → Knowledge E L → Type 0
   IsSameButSeen k m = (m.lock ≡ k.lock) × (m.live ≡ k.live) × (m.label ≡ k.label) × (m.party ≡ k.party) × (m.ended ≡ k.ended) × (m.gives ≡ k.gives) × (m.given ≡ k.given)
 
-  -- the first knows what the second does, but that one more party was given
+  -- the second pass knows what the first does, and that one more party was given
   abbrev pub IsSameButGiven : ℕ → Knowledge E L → Knowledge E L → Type 0
   IsSameButGiven p k m = (m.lock ≡ k.lock) × (m.live ≡ k.live) × (m.label ≡ k.label) × (m.party ≡ k.party) × (m.seen ≡ k.seen) × (m.ended ≡ k.ended) × (m.gives ≡ k.gives) × (m.given ≡ p ∷ k.given)
 
-  -- the second is a pass of a new party of the same lock, and has seen what the first has
+  -- the second pass is a new party's of the same lock, and has seen what the first has
   abbrev pub IsNewcomer : ℕ → Knowledge E L → Knowledge E L → Type 0
   IsNewcomer p k m = (m.lock ≡ k.lock) × (m.live ≡ true) × (m.label ≡ k.label) × (m.party ≡ p) × (m.seen ≡ k.seen) × (m.ended ≡ []) × (m.gives ≡ false) × (m.given ≡ [])
 
-  -- the second is the first after its lock was closed
+  -- the second pass is the first after its lock was closed
   abbrev pub IsClosed : Knowledge E L → Knowledge E L → Type 0
   IsClosed k m = (m.lock ≡ k.lock) × (m.live ≡ false) × (m.label ≡ k.label) × (m.party ≡ k.party) × (m.seen ≡ k.seen) × (m.ended ≡ k.ended) × (m.gives ≡ k.gives) × (m.given ≡ k.given)
 
@@ -103,7 +103,7 @@ module _ {E L : Type 0} where
   abbrev pub IsFreeFrom : ℕ → Knowledge E L → Type 0
   IsFreeFrom n k = (k.gives ≡ true) × ((p : ℕ) → n ≤ p → is_in p k.given ≡ false)
 
-  -- The second came from the first by splits and joins, and each pass that was made between was joined again:
+  -- The second pass came from the first by splits and joins, and each pass that was made between was joined again:
   -- a party that was given since then ended in it
   abbrev pub IsRegathered : Knowledge E L → Knowledge E L → Type 0
   IsRegathered k m = (m.lock ≡ k.lock) × (m.live ≡ true) × (m.label ≡ k.label) × (m.party ≡ k.party) × (m.gives ≡ true)
@@ -122,7 +122,7 @@ module _ {E L : Type 0} (party : E → ℕ) where
   abbrev pub account : Knowledge E L → Account E
   account k = (k.party, own k) ∷ k.ended
 
-  -- the third is the first after the second was joined into it
+  -- the third pass is the first after the second was joined into it
   abbrev pub IsJoined : Knowledge E L → Knowledge E L → Knowledge E L → Type 0
   IsJoined k m r = (r.lock ≡ k.lock) × (r.live ≡ true) × (r.label ≡ k.label) × (r.party ≡ k.party) × (r.seen ≡ longer k.seen m.seen) × (r.ended ≡ k.ended ++ account m) × (r.gives ≡ (k.gives || m.gives)) × (r.given ≡ cond k.gives k.given m.given)
 

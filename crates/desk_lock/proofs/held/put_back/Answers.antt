@@ -1,5 +1,5 @@
 use Rattle.std.proofs.Common.{rules}
-use Rattle.desk_lock.proofs.Answers.{exchanged, may_add}
+use Rattle.desk_lock.proofs.Calls.{exchanged, may_add}
 use Rattle.desk_lock.proofs.Entries.{shows}
 use Rattle.desk_lock.proofs.held.put_back.Goals as goal
 

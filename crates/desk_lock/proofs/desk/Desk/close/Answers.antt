@@ -1,5 +1,5 @@
 use Rattle.std.proofs.Common.{rules, ap}
-use Rattle.desk_lock.proofs.Answers.{closes_as, closed_book, not_empty}
+use Rattle.desk_lock.proofs.Calls.{closes_as, closed_book, not_empty}
 use Rattle.desk_lock.proofs.Meetings.{leaves}
 use Rattle.desk_lock.proofs.desk.Desk.close.Goals as goal
 

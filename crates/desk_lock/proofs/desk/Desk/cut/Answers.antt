@@ -1,5 +1,5 @@
 use Rattle.std.proofs.Common.{rules}
-use Rattle.desk_lock.proofs.Answers.{cuts}
+use Rattle.desk_lock.proofs.Calls.{cuts}
 use Rattle.desk_lock.proofs.desk.Desk.cut.Goals as goal
 
 pub split_seat-requires : goal.split_seat-requires

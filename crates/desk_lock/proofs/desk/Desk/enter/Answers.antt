@@ -1,5 +1,5 @@
 use Rattle.std.proofs.Common.{rules}
-use Rattle.desk_lock.proofs.Answers.{pass_rests}
+use Rattle.desk_lock.proofs.Calls.{pass_rests}
 use Rattle.desk_lock.proofs.Turns.{draws}
 use Rattle.desk_lock.proofs.desk.Desk.enter.Goals as goal
 

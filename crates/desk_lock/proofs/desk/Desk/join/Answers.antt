@@ -1,5 +1,5 @@
 use Rattle.std.proofs.Common.{rules, ap}
-use Rattle.desk_lock.proofs.Answers.{pass_rests, joined_begins}
+use Rattle.desk_lock.proofs.Calls.{pass_rests, joined_begins}
 use Rattle.desk_lock.proofs.Entries.{compares}
 use Rattle.desk_lock.proofs.Meetings.{joins}
 use Rattle.desk_lock.proofs.desk.Desk.join.Goals as goal

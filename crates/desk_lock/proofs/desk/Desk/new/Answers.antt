@@ -1,5 +1,5 @@
 use Rattle.std.proofs.Common.{rules}
-use Rattle.desk_lock.proofs.Answers.{begins_as}
+use Rattle.desk_lock.proofs.Calls.{begins_as}
 use Rattle.desk_lock.proofs.desk.Desk.new.Goals as goal
 
 pub new-requires : goal.new-requires

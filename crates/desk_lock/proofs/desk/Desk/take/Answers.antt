@@ -1,5 +1,5 @@
 use Rattle.std.proofs.Common.{rules, ap, sym, ◌∙◌, ◌%◌, ◌^◌, Some}
-use Rattle.desk_lock.proofs.Answers.{served, headed}
+use Rattle.desk_lock.proofs.Calls.{served, headed}
 use Rattle.desk_lock.proofs.Turns.{looks}
 use Rattle.desk_lock.proofs.desk.Desk.take.Goals as goal
 

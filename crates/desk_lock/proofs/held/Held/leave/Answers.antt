@@ -1,5 +1,5 @@
 use Rattle.std.proofs.Common.{rules}
-use Rattle.desk_lock.proofs.Answers.{may_end}
+use Rattle.desk_lock.proofs.Calls.{may_end}
 use Rattle.desk_lock.proofs.held.Held.leave.Goals as goal
 
 pub fetch_add-requires : goal.fetch_add-requires
