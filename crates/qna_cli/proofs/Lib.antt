@@ -1,0 +1,4 @@
+pub mod Inputs
+pub mod Years
+pub mod Parts
+pub mod Ends

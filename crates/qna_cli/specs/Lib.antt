@@ -1,0 +1,5 @@
+pub mod Inputs
+pub mod Values
+pub mod Release
+pub mod Command
+pub mod BatchEnd

@@ -1,0 +1,48 @@
+//! The compiler of quarterly national accounts: words in, an exit status out.
+#![tactic(auto)]
+
+mod batch;
+mod command;
+mod input_lines;
+mod read;
+mod release;
+
+pub use command::{run, run_batch};
+use qna_base::Memory;
+use qna_edges::{FileCabinet, OpenGate, Status, StdoutSink};
+use std::alloc::Global;
+use std::env;
+use std::process::ExitCode;
+
+#[cfg(test)]
+mod tests;
+
+/// The words without the program's name, borrowed.
+fn words_of(alloc: Global, texts: &[String]) -> Result<Vec<&str>, Memory> {
+    let mut words = Vec::new(alloc);
+    for text in texts.iter().skip(1) {
+        words.push(text.as_str())?;
+    }
+    Ok(words)
+}
+
+fn main(rt: HostRuntime) -> ExitCode {
+    let alloc = rt.alloc();
+    let Ok(arguments) = env::args(&rt) else {
+        return ExitCode::from(Status::Usage.number());
+    };
+    let texts: Vec<String> = match arguments.collect(alloc) {
+        Ok(texts) => texts,
+        Err(_) => return ExitCode::from(Status::Memory.number()),
+    };
+    let Ok(words) = words_of(alloc, &texts) else {
+        return ExitCode::from(Status::Memory.number());
+    };
+    let Ok(files) = rt.clone() else {
+        return ExitCode::from(Status::Memory.number());
+    };
+    let mut report = StdoutSink::new(rt.stdout());
+    let mut cabinet = FileCabinet::new(files, alloc);
+    let status = run(&rt, alloc, &words, &mut cabinet, &mut report, &OpenGate);
+    ExitCode::from(status.number())
+}
