@@ -1,9 +1,9 @@
 -- Where a text and a line are cut.
-use Rattle.std.proofs.Common.{◌≡◌, ℕ, ◌+◌, ◌-◌, ◌<◌, ◌≤◌, ◌==◌, Bool, true, false, not, cond, List, [], ◌∷◌, length, take, drop, Option, Some, None, position, refl, ap, ◌∙◌, sym, subst, add-one, zero, suc, arith, nat_eq, nat_lt, length-drop}
+use Rattle.std.proofs.Common.{◌≡◌, ℕ, ◌+◌, ◌-◌, ◌<◌, ◌≤◌, ◌==◌, Bool, true, false, not, cond, List, [], ◌∷◌, length, take, drop, Some, None, position, refl, add-one, arith, nat_lt, length-drop}
 use Rattle.std.proofs.Math.Numerals.{one-add}
 use Rattle.std.specs.List.{prefix_len}
 use Rattle.std.proofs.lemmas.List.{take_all, drop_all}
-use Rattle.series_tables.specs.Text.{TextLine, onto_line, lines_of, onto_field, fields_of}
+use Rattle.series_tables.specs.Text.{onto_line, lines_of, onto_field, fields_of}
 
 -- how many bytes stand before the first one that is this byte
 abbrev pub before_byte : ℕ → List ℕ → ℕ

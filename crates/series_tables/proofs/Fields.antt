@@ -1,5 +1,5 @@
 -- Fields of a line, and lines of fields.
-use Rattle.std.proofs.Common.{◌≡◌, ℕ, ◌==◌, Bool, true, false, cond, List, [], ◌∷◌, Option, Some, None, refl}
+use Rattle.std.proofs.Common.{◌≡◌, ℕ, ◌==◌, Bool, true, false, cond, List, [], ◌∷◌, None, refl}
 use Rattle.series_tables.specs.Text.{onto_field, fields_of}
 use Rattle.series_tables.specs.Plan.{start_of_fields, item_of_fields}
 

@@ -1,8 +1,8 @@
 -- Rows, and the runs that stand in them.
-use Rattle.std.proofs.Common.{◌≡◌, ℕ, ℤ, pos, ◌+◌, ◌-◌, ◌*◌, ◌/◌, ◌<◌, ◌≤◌, ◌++◌, Bool, true, false, cond, List, [], ◌∷◌, length, map, take, drop, Option, Some, None, nat_lt, refl, sym, ap, ◌∙◌, arith, subst, add-zero, zero-add, suc-mul, map-id, zero, suc, get_or, set, replicate, All}
+use Rattle.std.proofs.Common.{◌≡◌, ℕ, ℤ, pos, ◌+◌, ◌*◌, ◌/◌, ◌<◌, ◌≤◌, true, List, [], ◌∷◌, length, map, take, drop, Option, Some, None, nat_lt, refl, sym, ap, ◌∙◌, arith, subst, add-zero, zero-add, suc-mul, map-id, suc, get_or, set, replicate, All}
 use Rattle.std.specs.Option.{ForSome, option_map}
 use Rattle.std.proofs.lemmas.List.{get_or-replicate, length-replicate, length-set, length-take, length-drop, get_or-take, get_or-drop}
-use Rattle.std.proofs.lemmas.List.Elements.{All-set, All-take, All-drop, recursion_from_All, All-from_recursion}
+use Rattle.std.proofs.lemmas.List.Elements.{All-set, recursion_from_All, All-from_recursion}
 use Rattle.std.proofs.lemmas.Bool.{lt-ltb}
 use Rattle.std.proofs.Math.Nat.{mul-le-mul_right}
 use Rattle.std.specs.List.{AllByRecursion}

@@ -1,4 +1,4 @@
-use Rattle.std.proofs.Common.{◌≡◌, sym, ◌∙◌}
+use Rattle.std.proofs.Common.{sym, ◌∙◌}
 use Rattle.series_tables.proofs.Names.{names_with_new_key}
 use Rattle.series_tables.proofs.plan.add_name.Goals as goal
 

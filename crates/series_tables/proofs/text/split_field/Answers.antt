@@ -1,4 +1,4 @@
-use Rattle.std.proofs.Common.{◌≡◌, length, ◌∙◌, sym}
+use Rattle.std.proofs.Common.{◌∙◌, sym}
 use Rattle.series_tables.proofs.Cuts.{field-found, field-last}
 use Rattle.series_tables.proofs.text.split_field.Goals as goal
 

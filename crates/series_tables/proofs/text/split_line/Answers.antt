@@ -1,4 +1,4 @@
-use Rattle.std.proofs.Common.{◌≡◌, length, ◌∙◌, sym}
+use Rattle.std.proofs.Common.{◌∙◌, sym}
 use Rattle.series_tables.proofs.Cuts.{line-found, line-last}
 use Rattle.series_tables.proofs.text.split_line.Goals as goal
 

@@ -1,4 +1,4 @@
-use Rattle.std.proofs.Common.{◌≡◌, ℕ, ℤ, ◌+◌, ◌*◌, ◌/◌, ◌<◌, ◌≤◌, ◌∙◌, ap, length, take, drop, List, Option, All, vec_len, subst, sym, arith}
+use Rattle.std.proofs.Common.{◌≡◌, ℕ, ℤ, ◌*◌, ◌/◌, ◌<◌, ◌≤◌, ◌∙◌, ap, length, take, drop, List, Option, All, vec_len, subst, sym, arith}
 use Rattle.series_tables.specs.Cells.{Rows, cell, present_run, IsInputOf}
 use Rattle.series_tables.specs.Ranges.{IsPositiveInRange, IsPositiveOrNone, IsBenchmarkOrNone}
 use Rattle.series_tables.proofs.Rows.{input_of_rows, all_present}

@@ -1,4 +1,4 @@
-use Rattle.std.proofs.Common.{◌≡◌, rules, arith, FitsSigned, to_z-of_z}
+use Rattle.std.proofs.Common.{rules, arith, FitsSigned, to_z-of_z}
 use Rattle.std.specs.Int.{w64}
 use Rattle.series_tables.proofs.Rows.{rows_with_benchmark}
 use Rattle.series_tables.proofs.tables.Tables.set.Goals as goal
