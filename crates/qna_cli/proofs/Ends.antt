@@ -1,12 +1,11 @@
 -- How `batch` ends where nothing fails.
-use Rattle.std.proofs.Common.{◌≡◌, ◌≤◌, ◌<◌, ◌+◌, ◌⊎◌, ℕ, [], Bool, true, false, IsTrue, List, length, Option, Some, None, IfSome, is_some, inl, inr, refl, arith, subst, sym, ◌∙◌}
-use Rattle.qna_edges.specs.Count.{Rose}
+use Rattle.std.proofs.Common.{◌≡◌, ◌≤◌, ◌<◌, ◌+◌, ◌⊎◌, ℕ, [], true, false, List, length, Option, Some, None, IfSome, is_some, inl, inr, refl, arith}
 use Rattle.qna_edges.specs.Names.{SameAtAll}
 use Rattle.qna_edges.specs.declared.status.Status.{Status}
 use Rattle.qna_edges.specs.declared.status.Status.TheVariants.{Done, Memory, Usage, PlanFault, OpenFault, ReadFault, WriteFault, CheckNo, TooMuch}
-use Rattle.series_tables.specs.Plan.{PlanShape, plan_of}
-use Rattle.qna_cli.specs.Command.{SpellsPlan, ends_a_batch}
-use Rattle.qna_cli.specs.BatchEnd.{Shelves, Paper, limit, IsBatchEnd, NoCountRose, Completes}
+use Rattle.series_tables.specs.Plan.{plan_of}
+use Rattle.qna_cli.specs.Command.{SpellsPlan}
+use Rattle.qna_cli.specs.BatchEnd.{Shelves, Paper, limit, IsBatchEnd, Completes}
 
 -- where no count rose, the plan is right and both files are within the limit, an end of `batch` is whole or for want of memory
 pub completes : (old new : Shelves) (before after : Paper) (plan input output : List ℕ) (status : Status) →

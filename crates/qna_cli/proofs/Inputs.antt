@@ -1,5 +1,5 @@
 -- What one line more gives.
-use Rattle.std.proofs.Common.{◌≡◌, ℕ, ℤ, ◌+◌, Bool, cond, List, [], ◌∷◌, ◌++◌, length, Option, Some, None, is_some, refl, arith, append_assoc}
+use Rattle.std.proofs.Common.{◌≡◌, ℕ, ℤ, ◌+◌, cond, List, [], ◌∷◌, ◌++◌, length, Option, Some, None, is_some, refl, arith, append_assoc}
 use Rattle.std.specs.List.{filter_map, cons_option}
 use Rattle.series_tables.specs.Text.{TextLine, fields_of}
 use Rattle.series_tables.specs.LastValue.{last_from}

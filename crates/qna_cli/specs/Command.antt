@@ -3,7 +3,7 @@ use Rattle.std.specs.Prelude.{◌≡◌, ◌≤◌, ◌⊎◌, ℕ, Bool, true, 
 use Rattle.std.specs.Option.{option_map_or}
 use Rattle.std.specs.Str.{bytes_eq}
 use Rattle.qna_edges.specs.declared.status.Status.{Status}
-use Rattle.qna_edges.specs.declared.status.Status.TheVariants.{Done, Memory, Usage, PlanFault, OpenFault, ReadFault, WriteFault, CheckNo, TooMuch}
+use Rattle.qna_edges.specs.declared.status.Status.TheVariants.{Done, Memory, PlanFault, OpenFault, ReadFault, WriteFault, TooMuch}
 use Rattle.qna_edges.specs.Told.{AppendsPrefix}
 use Rattle.series_tables.specs.Plan.{plan_of}
 use Rattle.qna_cli.specs.Inputs.{accepted, refusals}

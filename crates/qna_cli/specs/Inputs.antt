@@ -1,5 +1,5 @@
 -- The inputs that the lines of a text give, and what is reported of the other lines.
-use Rattle.std.specs.Prelude.{◌≡◌, ℕ, ℤ, ◌+◌, ◌-◌, Bool, true, false, ◌&&◌, ◌==◌, nat_le, int_le, List, [], ◌∷◌, ◌++◌, codes, decimal, is_some, Option, Some, None, if◌then◌else◌}
+use Rattle.std.specs.Prelude.{ℕ, ℤ, ◌+◌, ◌-◌, Bool, false, ◌&&◌, ◌==◌, nat_le, int_le, List, [], ◌∷◌, ◌++◌, codes, decimal, is_some, Option, Some, None, if◌then◌else◌}
 use Rattle.std.specs.List.{filter_map}
 use Rattle.std.specs.Str.{bytes_eq}
 use Rattle.series_tables.specs.Text.{TextLine, lines_of, fields_of, year_of, canonical_integer}

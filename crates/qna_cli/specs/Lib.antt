@@ -3,3 +3,4 @@ pub mod Values
 pub mod Release
 pub mod Command
 pub mod BatchEnd
+pub mod Meets

@@ -1,5 +1,5 @@
 -- The benchmarked values of a leaf, compiled from scratch.
-use Rattle.std.specs.Prelude.{◌≡◌, ℕ, ℤ, pos, ◌+ℤ◌, ◌*ℤ◌, ◌/◌, List, [], ◌∷◌, map, length, Option, Some, None}
+use Rattle.std.specs.Prelude.{ℕ, ℤ, ◌*ℤ◌, ◌/◌, List, [], ◌∷◌, map, length, Option, Some, None}
 use Rattle.sum_rounding.specs.ShareOut.{share_of, sum_of}
 use Rattle.series_tables.specs.LastValue.{run_of}
 use Rattle.series_tables.specs.Cells.{cells_from}

@@ -3,6 +3,7 @@
 ghost use Rattle.std.specs.Prelude.{◌≡◌, ◌≢◌, List, ℕ, map, true, false};
 ghost use Rattle.qna_cli.specs.Command.{is_file_name as is_file_name_of, are_file_names as are_file_names_of, is_batch};
 ghost use Rattle.qna_cli.specs.BatchEnd.{OnBatch, IsBatchEnd, Completes};
+ghost use Rattle.qna_cli.specs.Meets.{BenchmarksAreMet};
 
 use crate::batch::batch;
 use qna_edges::{Cabinet, Gate, Sink, Status};
@@ -49,6 +50,7 @@ pub fn run<R: Threads + Wait, C: Cabinet, K: Sink, G: Gate>(
     ensures form { is_batch (map (λ word. word.now) words.now) ≡ false → result ≡ Status.Usage }
     ensures untouched { result ≡ Status.Usage → cabinet.new ≡ cabinet.old }
     ensures silent { result ≡ Status.Usage → report.new ≡ report.old }
+    ensures met { BenchmarksAreMet }
     ensures ends { is_batch (map (λ word. word.now) words.now) ≡ true → OnBatch (map (λ word. word.now) words.now) (λ plan input output. IsBatchEnd (record { opens = C.open_faults cabinet.old; creates = C.create_faults cabinet.old; reads = C.read_faults cabinet.old; writes = C.write_faults cabinet.old; tells = C.tells cabinet.old; file = C.file cabinet.old; rest = C.rest cabinet.old }) (record { opens = C.open_faults cabinet.new; creates = C.create_faults cabinet.new; reads = C.read_faults cabinet.new; writes = C.write_faults cabinet.new; tells = C.tells cabinet.new; file = C.file cabinet.new; rest = C.rest cabinet.new }) (record { held = K.held report.old; faults = K.faults report.old }) (record { held = K.held report.new; faults = K.faults report.new }) plan input output result) }
     ensures completes { is_batch (map (λ word. word.now) words.now) ≡ true → OnBatch (map (λ word. word.now) words.now) (λ plan input output. Completes (record { opens = C.open_faults cabinet.old; creates = C.create_faults cabinet.old; reads = C.read_faults cabinet.old; writes = C.write_faults cabinet.old; tells = C.tells cabinet.old; file = C.file cabinet.old; rest = C.rest cabinet.old }) (record { opens = C.open_faults cabinet.new; creates = C.create_faults cabinet.new; reads = C.read_faults cabinet.new; writes = C.write_faults cabinet.new; tells = C.tells cabinet.new; file = C.file cabinet.new; rest = C.rest cabinet.new }) (record { held = K.held report.old; faults = K.faults report.old }) (record { held = K.held report.new; faults = K.faults report.new }) plan input output result) }
 {
@@ -57,6 +59,7 @@ pub fn run<R: Threads + Wait, C: Cabinet, K: Sink, G: Gate>(
 
 /// Carries out the command `batch PLAN INPUT OUTPUT`: reads the plan and the input, at most 2^20 bytes each, reports each refused
 /// line of the input, and writes the release of all accepted inputs to the output.
+#[tactic(auto, using(crate::proofs::Meets::benchmarks_are_met))]
 pub fn run_batch<C: Cabinet, K: Sink>(
     alloc: Global,
     words: &[&str],
@@ -67,6 +70,7 @@ pub fn run_batch<C: Cabinet, K: Sink>(
     ensures form { is_batch (map (λ word. word.now) words.now) ≡ false → result ≡ Status.Usage }
     ensures untouched { result ≡ Status.Usage → cabinet.new ≡ cabinet.old }
     ensures silent { result ≡ Status.Usage → report.new ≡ report.old }
+    ensures met { BenchmarksAreMet }
     ensures ends { is_batch (map (λ word. word.now) words.now) ≡ true → OnBatch (map (λ word. word.now) words.now) (λ plan input output. IsBatchEnd (record { opens = C.open_faults cabinet.old; creates = C.create_faults cabinet.old; reads = C.read_faults cabinet.old; writes = C.write_faults cabinet.old; tells = C.tells cabinet.old; file = C.file cabinet.old; rest = C.rest cabinet.old }) (record { opens = C.open_faults cabinet.new; creates = C.create_faults cabinet.new; reads = C.read_faults cabinet.new; writes = C.write_faults cabinet.new; tells = C.tells cabinet.new; file = C.file cabinet.new; rest = C.rest cabinet.new }) (record { held = K.held report.old; faults = K.faults report.old }) (record { held = K.held report.new; faults = K.faults report.new }) plan input output result) }
     ensures completes { is_batch (map (λ word. word.now) words.now) ≡ true → OnBatch (map (λ word. word.now) words.now) (λ plan input output. Completes (record { opens = C.open_faults cabinet.old; creates = C.create_faults cabinet.old; reads = C.read_faults cabinet.old; writes = C.write_faults cabinet.old; tells = C.tells cabinet.old; file = C.file cabinet.old; rest = C.rest cabinet.old }) (record { opens = C.open_faults cabinet.new; creates = C.create_faults cabinet.new; reads = C.read_faults cabinet.new; writes = C.write_faults cabinet.new; tells = C.tells cabinet.new; file = C.file cabinet.new; rest = C.rest cabinet.new }) (record { held = K.held report.old; faults = K.faults report.old }) (record { held = K.held report.new; faults = K.faults report.new }) plan input output result) }
 {
@@ -83,3 +87,8 @@ pub fn run_batch<C: Cabinet, K: Sink>(
         _ => Status::Usage,
     }
 }
+
+/// Law: whatever the plan and the accepted inputs, the quarters of a benchmarked year add up to its benchmark.
+pub fn benchmarks_are_met()
+    ensures { BenchmarksAreMet }
+{}

@@ -7,12 +7,12 @@ mod input_lines;
 mod read;
 mod release;
 
-pub use command::{run, run_batch};
+pub use command::{benchmarks_are_met, run, run_batch};
 use qna_base::Memory;
 use qna_edges::{FileCabinet, OpenGate, Status, StdoutSink};
 use std::alloc::Global;
-use std::env;
 use std::process::ExitCode;
+use std::{env, io};
 
 #[cfg(test)]
 mod tests;
@@ -26,10 +26,19 @@ fn words_of(alloc: Global, texts: &[String]) -> Result<Vec<&str>, Memory> {
     Ok(words)
 }
 
+/// The status where the words can't be had as text: want of memory, or a word that isn't UTF-8.
+fn words_status(error: &io::Error) -> Status {
+    match error.kind() {
+        io::ErrorKind::OutOfMemory => Status::Memory,
+        _ => Status::Usage,
+    }
+}
+
 fn main(rt: HostRuntime) -> ExitCode {
     let alloc = rt.alloc();
-    let Ok(arguments) = env::args(&rt) else {
-        return ExitCode::from(Status::Usage.number());
+    let arguments = match env::args(&rt) {
+        Ok(arguments) => arguments,
+        Err(error) => return ExitCode::from(words_status(&error).number()),
     };
     let texts: Vec<String> = match arguments.collect(alloc) {
         Ok(texts) => texts,

@@ -1,4 +1,3 @@
-use Rattle.qna_cli.specs.BatchEnd.{IsBatchEnd, Completes}
 use Rattle.qna_cli.proofs.Ends.{completes}
 use Rattle.qna_cli.proofs.batch.batch.Goals as goal
 

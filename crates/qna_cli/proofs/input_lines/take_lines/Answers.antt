@@ -1,4 +1,4 @@
-use Rattle.std.proofs.Common.{◌≡◌, ◌≤◌, ◌∙◌, List, arith}
+use Rattle.std.proofs.Common.{◌≤◌, ◌∙◌, List, arith}
 use Rattle.series_tables.specs.Text.{TextLine, lines_of}
 use Rattle.series_tables.specs.Cells.{cell}
 use Rattle.qna_cli.proofs.Inputs.{counted_line, reported_line, taken_line}

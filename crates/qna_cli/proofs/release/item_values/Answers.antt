@@ -1,4 +1,3 @@
-use Rattle.std.proofs.Common.{◌≡◌}
 use Rattle.qna_cli.proofs.Years.{leaf_values_of_input}
 use Rattle.qna_cli.proofs.release.item_values.Goals as goal
 

@@ -1,4 +1,4 @@
-use Rattle.std.proofs.Common.{◌≡◌, refl}
+use Rattle.std.proofs.Common.{refl}
 use Rattle.qna_cli.specs.Release.{release_text}
 use Rattle.qna_cli.proofs.Years.{items_of_last_values}
 use Rattle.qna_cli.proofs.release.release.Goals as goal

@@ -1,4 +1,4 @@
-use Rattle.std.proofs.Common.{◌≡◌, ◌≤◌, to_z, of_z, arith}
+use Rattle.std.proofs.Common.{to_z, of_z, arith}
 use Rattle.std.specs.Int.{w64}
 use Rattle.std.proofs.lemmas.Int.{ints, to_z-of_z}
 use Rattle.qna_cli.proofs.Years.{passed_parts_add_up}
