@@ -1,0 +1,6 @@
+// The fields of one line.
+
+#[derive(Drop)]
+pub struct Fields {
+    pub n: usize,
+}
