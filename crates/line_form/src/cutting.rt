@@ -159,7 +159,7 @@ fn keep(kept: &mut Vec<u8>, bytes: &[u8])
 
 /// A piece without a byte order mark at its start, where it begins a stream.
 #[tactic(auto, using(crate::proofs::Streams::mark_dropped, crate::proofs::Streams::mark_absent))]
-fn first_piece(piece: &[u8], before: u64) -> &[u8]
+pub(crate) fn first_piece(piece: &[u8], before: u64) -> &[u8]
     ensures { result.now ≡ unmarked before piece.now }
 {
     if before != 0 {
