@@ -1,7 +1,7 @@
 -- Places of commas, and the parts between them.
-use Rattle.std.proofs.Common.{◌≡◌, ◌≤◌, ◌<◌, ◌+◌, ◌-◌, ◌∙◌, ◌⊎◌, inl, inr, ℕ, zero, suc, Bool, true, false, cond, nat_eq, List, [], ◌∷◌, ◌++◌, length, take, drop, get_or, refl, sym, ap, subst, arith, append_assoc, length-append, add-one, eqb-true}
+use Rattle.std.proofs.Common.{◌≡◌, ◌≤◌, ◌<◌, ◌+◌, ◌-◌, ◌∙◌, ℕ, zero, suc, true, false, cond, nat_eq, List, [], ◌∷◌, ◌++◌, length, take, drop, get_or, refl, sym, ap, arith, append_assoc, length-append}
 use Rattle.std.proofs.lemmas.List.{append-nil, take_rest, take_at, drop_at, drop_more, drop_all}
-use Rattle.std.proofs.lemmas.Bool.{cases_Bool, ne_eqb}
+use Rattle.std.proofs.lemmas.Bool.{ne_eqb}
 use Rattle.line_form.specs.Commas.{commas_from, cut_at, Rising, start_at, end_at}
 use Rattle.line_form.specs.Fields.{parts_from}
 
@@ -58,7 +58,7 @@ part_end start (e ∷ es) (suc i) size h = part_end (e + 1) es i size h.1
 
 -- the part at a place, and how many there are
 pub get_or-cut_at : (start : ℕ) (es text : List ℕ) (i : ℕ) → i ≤ length es
-  → get_or (cut_at start es text) i [] ≡ take (end_at es i (length text) - start_at start es i) (drop (start_at start es i) text)
+    → get_or (cut_at start es text) i [] ≡ take (end_at es i (length text) - start_at start es i) (drop (start_at start es i) text)
 unfolding cut_at start_at end_at
 get_or-cut_at start [] text zero le = sym (take_rest text start)
 get_or-cut_at start [] text (suc i) le = absurd (omega arith)
@@ -76,8 +76,8 @@ unfolding commas_from Rising
 commas_rising start i [] size le is = omega arith
 commas_rising start i (b ∷ bs) size le is =
     elim (nat_eq b 44) as (λ t. Rising start (cond t (i ∷ commas_from (i + 1) bs) (commas_from (i + 1) bs)) size) [
-      true ↦ (le, commas_rising (i + 1) (i + 1) bs size (omega arith) (omega arith))
-    | false ↦ commas_rising start (i + 1) bs size (omega arith) (omega arith)
+      | true ↦ (le, commas_rising (i + 1) (i + 1) bs size (omega arith) (omega arith))
+      | false ↦ commas_rising start (i + 1) bs size (omega arith) (omega arith)
     ]
 
 -- a text cut at its commas is the parts between them
@@ -88,26 +88,26 @@ longer_part : (part : List ℕ) (b : ℕ) → length (part ++ b ∷ []) ≡ leng
 longer_part part b = omega (arith, length-append part (b ∷ []))
 
 first_part : (start i : ℕ) (front part bs text : List ℕ) → start ≡ length front → i ≡ length front + length part → text ≡ front ++ (part ++ bs)
-  → take (i - start) (drop start text) ≡ part
+    → take (i - start) (drop start text) ≡ part
 first_part start i front part bs text s j t =
     let n : i - start ≡ length part = omega arith in
     rw (n, s, t, drop_at front (part ++ bs) (length front) refl) (take_at part bs (length part) refl)
 
 pub cut_from : (start i : ℕ) (front part bs text : List ℕ) → start ≡ length front → i ≡ length front + length part → text ≡ front ++ (part ++ bs)
-  → cut_at start (commas_from i bs) text ≡ parts_from part bs
+    → cut_at start (commas_from i bs) text ≡ parts_from part bs
 unfolding commas_from cut_at parts_from
 cut_from start i front part [] text s j t = rw (s, t, append-nil part) (ap (λ z. z ∷ []) (drop_at front part (length front) refl))
 cut_from start i front part (b ∷ bs) text s j t =
     elim (nat_eq b 44) as (λ c. cut_at start (cond c (i ∷ commas_from (i + 1) bs) (commas_from (i + 1) bs)) text ≡ cond c (part ∷ parts_from [] bs) (parts_from (part ++ b ∷ []) bs)) [
-      true ↦
-        let first = first_part start i front part (b ∷ bs) text s j t in
-        let longer : length (front ++ (part ++ b ∷ [])) ≡ length front + length part + 1 = longer_front front part b in
-        let whole : text ≡ (front ++ (part ++ b ∷ [])) ++ bs = t ∙ ap (λ z. front ++ z) (sym (append_assoc part (b ∷ []) bs)) ∙ sym (append_assoc front (part ++ b ∷ []) bs) in
-        let later = cut_from (i + 1) (i + 1) (front ++ (part ++ b ∷ [])) [] bs text (omega arith) (omega arith) whole in
-        rw (first, later) refl
-    | false ↦
-        let longer : length (part ++ b ∷ []) ≡ length part + 1 = longer_part part b in
-        cut_from start (i + 1) front (part ++ b ∷ []) bs text s (omega arith) (t ∙ ap (λ z. front ++ z) (sym (append_assoc part (b ∷ []) bs)))
+      | true ↦
+          let first = first_part start i front part (b ∷ bs) text s j t in
+          let longer : length (front ++ (part ++ b ∷ [])) ≡ length front + length part + 1 = longer_front front part b in
+          let whole : text ≡ (front ++ (part ++ b ∷ [])) ++ bs = t ∙ ap (λ z. front ++ z) (sym (append_assoc part (b ∷ []) bs)) ∙ sym (append_assoc front (part ++ b ∷ []) bs) in
+          let later = cut_from (i + 1) (i + 1) (front ++ (part ++ b ∷ [])) [] bs text (omega arith) (omega arith) whole in
+          rw (first, later) refl
+      | false ↦
+          let longer : length (part ++ b ∷ []) ≡ length part + 1 = longer_part part b in
+          cut_from start (i + 1) front (part ++ b ∷ []) bs text s (omega arith) (t ∙ ap (λ z. front ++ z) (sym (append_assoc part (b ∷ []) bs)))
     ]
 
 -- the commas so far and those to come

@@ -1,8 +1,8 @@
 -- What `csv` reads from the bytes of a line.
-use Rattle.std.proofs.Common.{◌≡◌, ◌≤◌, ◌<◌, ◌∙◌, ◌⊎◌, inl, inr, ℕ, zero, suc, Bool, true, false, ◌||◌, ◌&&◌, cond, nat_eq, List, [], ◌∷◌, ◌++◌, length, get_or, refl, sym, ap, subst, arith, append_assoc, Option, Some, None, option_map}
+use Rattle.std.proofs.Common.{◌≡◌, ◌≢◌, ◌≤◌, ◌<◌, ◌∙◌, ◌⊎◌, inl, inr, ℕ, suc, Bool, true, false, ◌||◌, cond, nat_eq, List, [], ◌∷◌, ◌++◌, length, get_or, refl, sym, ap, arith, append_assoc, Option, Some, None, option_map}
 use Rattle.std.specs.Option.{is_some}
 use Rattle.std.specs.List.{list_any, list_all}
-use Rattle.std.proofs.lemmas.Bool.{cases_Bool, or_parts, and_parts, eqb-true, ne_eqb, false_from_ne_true}
+use Rattle.std.proofs.lemmas.Bool.{cases_Bool, or_parts, and_parts, eqb-true, false_from_ne_true}
 use Rattle.csv.specs.Machine.{Read, next_record, step, in_field, is_end, fields_after, field_after, ends_at_end}
 use Rattle.csv.specs.Reading.{default_config, strip_bom}
 use Rattle.csv.specs.declared.parser.State.{State}
@@ -10,21 +10,21 @@ use Rattle.csv.specs.declared.parser.State.TheVariants as st
 use Rattle.csv.specs.declared.parser.Action.{Action}
 use Rattle.csv.specs.declared.parser.Action.TheVariants as act
 use Rattle.line_form.specs.Fields.{csv_record, record_of, parts_from, is_special}
-use Rattle.line_form.proofs.CutLines.{MarkCases, mark_cases}
+use Rattle.line_form.proofs.CutLines.{mark_cases}
 
 -- one byte that ends a field, one that joins it, one that is passed over and one that ends the record
 next_ends : (s t : State) (fs : List (List ℕ)) (f : List ℕ) (c : ℕ) (xs : List ℕ) → step default_config s c ≡ (t, act.EndField)
-  → next_record default_config s fs f (c ∷ xs) ≡ next_record default_config t (fs ++ f ∷ []) [] xs
+    → next_record default_config s fs f (c ∷ xs) ≡ next_record default_config t (fs ++ f ∷ []) [] xs
 unfolding next_record
 next_ends s t fs f c xs h = rw h refl
 
 next_copies : (s t : State) (fs : List (List ℕ)) (f : List ℕ) (c : ℕ) (xs : List ℕ) → step default_config s c ≡ (t, act.Copy)
-  → next_record default_config s fs f (c ∷ xs) ≡ next_record default_config t fs (f ++ c ∷ []) xs
+    → next_record default_config s fs f (c ∷ xs) ≡ next_record default_config t fs (f ++ c ∷ []) xs
 unfolding next_record
 next_copies s t fs f c xs h = rw h refl
 
 next_skips : (s t : State) (fs : List (List ℕ)) (f : List ℕ) (c : ℕ) (xs : List ℕ) → step default_config s c ≡ (t, act.Skip)
-  → next_record default_config s fs f (c ∷ xs) ≡ next_record default_config t fs f xs
+    → next_record default_config s fs f (c ∷ xs) ≡ next_record default_config t fs f xs
 unfolding next_record
 next_skips s t fs f c xs h = rw h refl
 
@@ -75,24 +75,24 @@ plain_end true fs f = refl
 plain_end false fs f = refl
 
 pub plain_from : (b : Bool) (xs : List ℕ) (fs : List (List ℕ)) (f : List ℕ) → list_any is_special xs ≡ false
-  → next_record default_config (field_state b) fs f xs ≡ plain_read (fs ++ parts_from f xs)
+    → next_record default_config (field_state b) fs f xs ≡ plain_read (fs ++ parts_from f xs)
 plain_from b [] fs f h = plain_end b fs f
 plain_from b (c ∷ xs) fs f h =
     elim (cases_Bool (nat_eq c 44)) [
-      inl e ↦
-        let is : c ≡ 44 = eqb-true c 44 e in
-        let now : step default_config (field_state b) c ≡ (st.StartField, act.EndField) = rw is (step_comma b) in
-        let parts : parts_from f (c ∷ xs) ≡ f ∷ parts_from [] xs = rw is (parts_comma f xs) in
-        next_ends (field_state b) st.StartField fs f c xs now ∙ plain_from false xs (fs ++ f ∷ []) [] (plain_later c xs h)
+      | inl e ↦
+          let is : c ≡ 44 = eqb-true c 44 e in
+          let now : step default_config (field_state b) c ≡ (st.StartField, act.EndField) = rw is (step_comma b) in
+          let parts : parts_from f (c ∷ xs) ≡ f ∷ parts_from [] xs = rw is (parts_comma f xs) in
+          next_ends (field_state b) st.StartField fs f c xs now ∙ plain_from false xs (fs ++ f ∷ []) [] (plain_later c xs h)
           ∙ ap plain_read (append_assoc fs (f ∷ []) (parts_from [] xs) ∙ ap (λ z. fs ++ z) (sym parts))
-    | inr e ↦
-        next_copies (field_state b) st.InField fs f c xs (step_plain b c (plain_first c xs h) e) ∙ plain_from true xs fs (f ++ c ∷ []) (plain_later c xs h)
+      | inr e ↦
+          next_copies (field_state b) st.InField fs f c xs (step_plain b c (plain_first c xs h) e) ∙ plain_from true xs fs (f ++ c ∷ []) (plain_later c xs h)
           ∙ ap (λ z. plain_read (fs ++ z)) (sym (parts_other f c xs e))
     ]
 
 -- a first byte of a plain text begins a field
 next_same : (s t : State) (c : ℕ) (xs : List ℕ) → step default_config s c ≡ step default_config t c
-  → next_record default_config s [] [] (c ∷ xs) ≡ next_record default_config t [] [] (c ∷ xs)
+    → next_record default_config s [] [] (c ∷ xs) ≡ next_record default_config t [] [] (c ∷ xs)
 unfolding next_record
 next_same s t c xs h = rw h refl
 
@@ -101,14 +101,14 @@ start_same c p = rw (p.back, p.feed) refl
 
 -- the record of a text with no quote and no line end is its parts between commas
 pub plain_record : (c : ℕ) (xs : List ℕ) → list_any is_special (c ∷ xs) ≡ false
-  → next_record default_config st.StartRecord [] [] (c ∷ xs) ≡ plain_read (parts_from [] (c ∷ xs))
+    → next_record default_config st.StartRecord [] [] (c ∷ xs) ≡ plain_read (parts_from [] (c ∷ xs))
 plain_record c xs h = next_same st.StartRecord st.StartField c xs (start_same c (plain_first c xs h)) ∙ plain_from false (c ∷ xs) [] [] h
 
 unmarked_first : (c : ℕ) (xs : List ℕ) → (c ≡ 239 → ⊥) → strip_bom (c ∷ xs) ≡ c ∷ xs
 unmarked_first c xs other = elim (mark_cases (c ∷ xs)) [
-      inl m ↦ absurd (other (let same = m.1 in cc))
-    | inr e ↦ e
-    ]
+  | inl m ↦ absurd (other (let same = m.1 in cc))
+  | inr e ↦ e
+]
 
 no_return : (xs : List ℕ) → list_any is_special xs ≡ false → list_any (λ b. nat_eq b 13) xs ≡ false
 no_return [] h = refl
@@ -118,6 +118,10 @@ pub plain_line : (text : List ℕ) → 0 < length text → (get_or text 0 0 ≡ 
 unfolding record_of
 plain_line [] some other h = absurd (omega arith)
 plain_line (c ∷ xs) some other h = rw (no_return (c ∷ xs) h, unmarked_first c xs other) (ap (option_map (λ (p : Read). p.0)) (plain_record c xs h))
+
+pub plain_csv : (text : List ℕ) → text ≢ [] → list_any is_special text ≡ false → strip_bom text ≡ text → csv_record text ≡ Some (parts_from [] text)
+plain_csv [] some h e = absurd (some refl)
+plain_csv (c ∷ xs) some h e = rw e (ap (option_map (λ (p : Read). p.0)) (plain_record c xs h))
 
 -- a test that no byte passes
 pub none_passes : (p : ℕ → Bool) (xs : List ℕ) → ((k : ℕ) → 0 ≤ k → k < length xs → p (get_or xs k 0) ≡ true → ⊥) → list_any p xs ≡ false
@@ -143,10 +147,10 @@ GoesOn p = (is_end p.1 ≡ true) ⊎ (going p.0 ≡ true)
 field_goes_on : (c : ℕ) → GoesOn (in_field default_config c)
 field_goes_on c =
     elim (nat_eq c 44) as (λ t. GoesOn (cond t (st.StartField, act.EndField) (cond (nat_eq c 13 || nat_eq c 10) (cond (nat_eq c 13) st.AfterCr st.StartRecord, act.EndRecord) (st.InField, act.Copy)))) [
-      true ↦ inr refl
-    | false ↦ elim (nat_eq c 13 || nat_eq c 10) as (λ t. GoesOn (cond t (cond (nat_eq c 13) st.AfterCr st.StartRecord, act.EndRecord) (st.InField, act.Copy))) [
-        true ↦ inl refl
-      | false ↦ inr refl
+      | true ↦ inr refl
+      | false ↦ elim (nat_eq c 13 || nat_eq c 10) as (λ t. GoesOn (cond t (cond (nat_eq c 13) st.AfterCr st.StartRecord, act.EndRecord) (st.InField, act.Copy))) [
+        | true ↦ inl refl
+        | false ↦ inr refl
       ]
     ]
 
@@ -177,13 +181,13 @@ pub record_from : (xs : List ℕ) (s : State) (fs : List (List ℕ)) (f : List �
 unfolding next_record
 record_from [] s fs f h = rw (end_gives s h) refl
 record_from (c ∷ xs) s fs f h = elim (step_goes_on s c h) [
-      inl e ↦ rw e refl
-    | inr g ↦ elim (is_end (step default_config s c).1) as (λ t. is_some (cond t (Some (fields_after (step default_config s c).1 fs f, (step default_config s c).0, xs))
-        (next_record default_config (step default_config s c).0 (fields_after (step default_config s c).1 fs f) (field_after (step default_config s c).1 c f) xs)) ≡ true) [
-        true ↦ refl
-      | false ↦ record_from xs (step default_config s c).0 (fields_after (step default_config s c).1 fs f) (field_after (step default_config s c).1 c f) g
+  | inl e ↦ rw e refl
+  | inr g ↦ elim (is_end (step default_config s c).1) as (λ t. is_some (cond t (Some (fields_after (step default_config s c).1 fs f, (step default_config s c).0, xs))
+      (next_record default_config (step default_config s c).0 (fields_after (step default_config s c).1 fs f) (field_after (step default_config s c).1 c f) xs)) ≡ true) [
+        | true ↦ refl
+        | false ↦ record_from xs (step default_config s c).0 (fields_after (step default_config s c).1 fs f) (field_after (step default_config s c).1 c f) g
       ]
-    ]
+]
 
 -- a text of line feeds gives no record, and each other with no carriage return does
 feed_skips : step default_config st.StartRecord 10 ≡ (st.StartRecord, act.Skip)
@@ -202,23 +206,23 @@ feeds_none (c ∷ xs) h =
     next_skips st.StartRecord st.StartRecord [] [] c xs now ∙ feeds_none xs both.1
 
 next_like : (c : ℕ) (xs : List ℕ) → nat_eq c 10 ≡ false → nat_eq c 13 ≡ false
-  → next_record default_config st.StartRecord [] [] (c ∷ xs) ≡ next_record default_config st.StartField [] [] (c ∷ xs)
+    → next_record default_config st.StartRecord [] [] (c ∷ xs) ≡ next_record default_config st.StartField [] [] (c ∷ xs)
 next_like c xs feed back =
     let same : step default_config st.StartRecord c ≡ step default_config st.StartField c = rw (back, feed) refl in
     next_same st.StartRecord st.StartField c xs same
 
 pub some_record : (xs : List ℕ) → list_any (λ b. nat_eq b 13) xs ≡ false → list_all (λ b. nat_eq b 10) xs ≡ false
-  → is_some (next_record default_config st.StartRecord [] [] xs) ≡ true
+    → is_some (next_record default_config st.StartRecord [] [] xs) ≡ true
 some_record [] none all = cc
 some_record (c ∷ xs) none all =
     let parts = or_parts (nat_eq c 13) (list_any (λ b. nat_eq b 13) xs) none in
     elim (cases_Bool (nat_eq c 10)) [
-      inl feed ↦
-        let is : c ≡ 10 = eqb-true c 10 feed in
-        let now : step default_config st.StartRecord c ≡ (st.StartRecord, act.Skip) = rw is feed_skips in
-        let rest : list_all (λ b. nat_eq b 10) xs ≡ false = rw feed at all in
-        ap is_some (next_skips st.StartRecord st.StartRecord [] [] c xs now) ∙ some_record xs parts.1 rest
-    | inr other ↦ ap is_some (next_like c xs other parts.0) ∙ record_from (c ∷ xs) st.StartField [] [] refl
+      | inl feed ↦
+          let is : c ≡ 10 = eqb-true c 10 feed in
+          let now : step default_config st.StartRecord c ≡ (st.StartRecord, act.Skip) = rw is feed_skips in
+          let rest : list_all (λ b. nat_eq b 10) xs ≡ false = rw feed at all in
+          ap is_some (next_skips st.StartRecord st.StartRecord [] [] c xs now) ∙ some_record xs parts.1 rest
+      | inr other ↦ ap is_some (next_like c xs other parts.0) ∙ record_from (c ∷ xs) st.StartField [] [] refl
     ]
 
 -- a carriage return is left
@@ -244,9 +248,9 @@ marked_clean text t e h =
 
 stripped_clean : (text : List ℕ) → list_any (λ b. nat_eq b 13) text ≡ false → list_any (λ b. nat_eq b 13) (strip_bom text) ≡ false
 stripped_clean text h = elim (mark_cases text) [
-      inl m ↦ marked_clean text m.0 m.1 h
-    | inr e ↦ rw e h
-    ]
+  | inl m ↦ marked_clean text m.0 m.1 h
+  | inr e ↦ rw e h
+]
 
 some_mapped : (o : Option Read) → is_some o ≡ true → is_some (option_map (λ (p : Read). p.0) o) ≡ true
 some_mapped None h = h

@@ -1,7 +1,7 @@
 -- What the lines of a stream are, from its pieces with the mark still in the first.
-use Rattle.std.proofs.Common.{◌≡◌, ◌≢◌, ◌≤◌, ◌<◌, ◌+◌, ◌-◌, ◌∙◌, ◌⊎◌, inl, inr, ℕ, zero, suc, Bool, true, false, ◌&&◌, cond, nat_eq, min, List, [], ◌∷◌, ◌++◌, length, take, refl, sym, ap, subst, arith, append_assoc, length-append}
+use Rattle.std.proofs.Common.{◌≡◌, ◌≤◌, ◌<◌, ◌+◌, ◌∙◌, ◌⊎◌, inl, inr, ℕ, zero, suc, Bool, true, false, ◌&&◌, cond, nat_eq, min, List, [], ◌∷◌, ◌++◌, length, take, refl, sym, ap, subst, arith, append_assoc}
 use Rattle.std.proofs.lemmas.List.{append-nil, take_all, take-take, take_at, length-take}
-use Rattle.std.proofs.lemmas.Bool.{true≢false, cases_Bool, and_parts, eqb-true, ne_eqb, le-leb, lt-leb, cases_lt}
+use Rattle.std.proofs.lemmas.Bool.{true≢false, cases_Bool, and_parts, eqb-true, ne_eqb, lt-leb, cases_lt}
 use Rattle.csv.specs.Reading.{strip_bom, is_bom}
 use Rattle.line_form.specs.Lines.{TextLine, ended_from, rest_from, without_return, line_with, line_at, unmarked, next_number, numbered, number_after, last_piece, ended_lines, lines_of, Cutting, IsCutOf}
 use Rattle.line_form.proofs.Streams.{numbered-append, number_after-append, ended_from-append, rest_from-append}
@@ -34,7 +34,7 @@ longer_not_same : (a b c : ℕ) (t : List ℕ) → t ≡ a ∷ b ∷ c ∷ t →
 longer_not_same a b c t h = let n = ap length h in omega (arith, n)
 
 front_of_three : (a b c : ℕ) (p more : List ℕ) → (is_bom a b c ≡ true) ⊎ (is_bom a b c ≡ false)
-  → strip_bom (a ∷ b ∷ c ∷ (p ++ more)) ≡ a ∷ b ∷ c ∷ (p ++ more) → strip_bom (a ∷ b ∷ c ∷ p) ≡ a ∷ b ∷ c ∷ p
+    → strip_bom (a ∷ b ∷ c ∷ (p ++ more)) ≡ a ∷ b ∷ c ∷ (p ++ more) → strip_bom (a ∷ b ∷ c ∷ p) ≡ a ∷ b ∷ c ∷ p
 unfolding strip_bom
 front_of_three a b c p more (inl t) h = absurd (longer_not_same a b c (p ++ more) (rw t at h))
 front_of_three a b c p more (inr t) h = rw t refl
@@ -57,8 +57,8 @@ unfolding ended_from
 ended_from-onto x p [] = refl
 ended_from-onto x p (b ∷ bs) =
     elim (nat_eq b 10) as (λ t. cond t ((x ++ p) ∷ ended_from [] bs) (ended_from ((x ++ p) ++ b ∷ []) bs) ≡ onto_first x (cond t (p ∷ ended_from [] bs) (ended_from (p ++ b ∷ []) bs))) [
-      true ↦ refl
-    | false ↦ rw (append_assoc x p (b ∷ [])) (ended_from-onto x (p ++ b ∷ []) bs)
+      | true ↦ refl
+      | false ↦ rw (append_assoc x p (b ∷ [])) (ended_from-onto x (p ++ b ∷ []) bs)
     ]
 
 -- with nothing ended all is the rest
@@ -67,8 +67,8 @@ unfolding ended_from rest_from
 ended_none p [] h = sym (append-nil p)
 ended_none p (b ∷ bs) h =
     (elim (nat_eq b 10) as (λ t. cond t (p ∷ ended_from [] bs) (ended_from (p ++ b ∷ []) bs) ≡ [] → cond t (rest_from [] bs) (rest_from (p ++ b ∷ []) bs) ≡ p ++ b ∷ bs) [
-      true ↦ λ e. cc
-    | false ↦ λ e. ended_none (p ++ b ∷ []) bs e ∙ append_assoc p (b ∷ []) bs
+      | true ↦ λ e. cc
+      | false ↦ λ e. ended_none (p ++ b ∷ []) bs e ∙ append_assoc p (b ∷ []) bs
     ]) h
 
 -- behind an ended piece the rest is the same, whatever stood before
@@ -77,9 +77,9 @@ unfolding ended_from rest_from
 rest_any p q [] x xs h = cc
 rest_any p q (b ∷ bs) x xs h =
     (elim (nat_eq b 10) as (λ t. cond t (p ∷ ended_from [] bs) (ended_from (p ++ b ∷ []) bs) ≡ x ∷ xs
-      → cond t (rest_from [] bs) (rest_from (p ++ b ∷ []) bs) ≡ cond t (rest_from [] bs) (rest_from (q ++ b ∷ []) bs)) [
-      true ↦ λ e. refl
-    | false ↦ λ e. rest_any (p ++ b ∷ []) (q ++ b ∷ []) bs x xs e
+    → cond t (rest_from [] bs) (rest_from (p ++ b ∷ []) bs) ≡ cond t (rest_from [] bs) (rest_from (q ++ b ∷ []) bs)) [
+      | true ↦ λ e. refl
+      | false ↦ λ e. rest_any (p ++ b ∷ []) (q ++ b ∷ []) bs x xs e
     ]) h
 
 -- the first piece is a front of the stream
@@ -88,8 +88,8 @@ unfolding ended_from
 first_front q [] p ps h = cc
 first_front q (b ∷ bs) p ps h =
     (elim (nat_eq b 10) as (λ t. cond t (q ∷ ended_from [] bs) (ended_from (q ++ b ∷ []) bs) ≡ p ∷ ps → (more : List ℕ) × (q ++ b ∷ bs ≡ p ++ more)) [
-      true ↦ λ e. let same : q ≡ p = cc in (b ∷ bs, ap (λ z. z ++ b ∷ bs) same)
-    | false ↦ λ e. let later = first_front (q ++ b ∷ []) bs p ps e in (later.0, sym (append_assoc q (b ∷ []) bs) ∙ later.1)
+      | true ↦ λ e. let same : q ≡ p = cc in (b ∷ bs, ap (λ z. z ++ b ∷ bs) same)
+      | false ↦ λ e. let later = first_front (q ++ b ∷ []) bs p ps e in (later.0, sym (append_assoc q (b ∷ []) bs) ∙ later.1)
     ]) h
 
 abbrev mark : List ℕ
@@ -119,9 +119,9 @@ raw_plain s e = rw e (cut_plain s (ended_from [] s) e refl)
 -- the ended lines of a stream, from its pieces with the mark still in the first
 pub raw_lines : (s : List ℕ) → ended_lines s ≡ cut_lines 0 (ended_from [] s)
 raw_lines s = elim (mark_cases s) [
-      inl h ↦ let P : List ℕ → Type 0 = λ x. ended_lines x ≡ cut_lines 0 (ended_from [] x) in subst P (sym h.1) (raw_marked h.0)
-    | inr e ↦ raw_plain s e
-    ]
+  | inl h ↦ let P : List ℕ → Type 0 = λ x. ended_lines x ≡ cut_lines 0 (ended_from [] x) in subst P (sym h.1) (raw_marked h.0)
+  | inr e ↦ raw_plain s e
+]
 
 -- numbers rise from the first on
 next_pos : (n : ℕ) → 1 ≤ next_number n
@@ -161,9 +161,9 @@ raw_rest_plain s e = rw e (rest_plain s (ended_from [] s) e refl)
 
 raw_rest : (s : List ℕ) → RawRest s
 raw_rest s = elim (mark_cases s) [
-      inl h ↦ let P : List ℕ → Type 0 = λ x. RawRest x in subst P (sym h.1) (raw_rest_marked h.0)
-    | inr e ↦ raw_rest_plain s e
-    ]
+  | inl h ↦ let P : List ℕ → Type 0 = λ x. RawRest x in subst P (sym h.1) (raw_rest_marked h.0)
+  | inr e ↦ raw_rest_plain s e
+]
 
 -- the mark ends no piece
 abbrev RawCount : List ℕ → Type 0
@@ -180,9 +180,9 @@ raw_count_marked t = count_onto (ended_from [] t) ∙ sym (ap (number_after 0) (
 
 raw_count : (s : List ℕ) → RawCount s
 raw_count s = elim (mark_cases s) [
-      inl h ↦ let P : List ℕ → Type 0 = λ x. RawCount x in subst P (sym h.1) (raw_count_marked h.0)
-    | inr e ↦ rw e refl
-    ]
+  | inl h ↦ let P : List ℕ → Type 0 = λ x. RawCount x in subst P (sym h.1) (raw_count_marked h.0)
+  | inr e ↦ rw e refl
+]
 
 -- all lines of a stream, from its pieces with the mark still in the first
 pub whole_lines : (s : List ℕ) → lines_of s ≡ ended_lines s ++ numbered (number_after 0 (ended_from [] s)) (last_piece (unmarked (number_after 0 (ended_from [] s)) (rest_from [] s)))
@@ -191,7 +191,7 @@ whole_lines s = rw (numbered-append 0 (ended_from [] (strip_bom s)) (last_piece 
 
 -- more pieces behind those of a stream
 pub cut_lines-more : (es : List (List ℕ)) (q : List ℕ) (qs : List (List ℕ))
-  → cut_lines 0 (es ++ q ∷ qs) ≡ cut_lines 0 es ++ numbered (number_after 0 es) (unmarked (number_after 0 es) q ∷ qs)
+    → cut_lines 0 (es ++ q ∷ qs) ≡ cut_lines 0 es ++ numbered (number_after 0 es) (unmarked (number_after 0 es) q ∷ qs)
 unfolding numbered number_after
 cut_lines-more [] q qs = refl
 cut_lines-more (p ∷ ps) q qs =
@@ -219,13 +219,13 @@ kept_long n k q few long =
 
 kept_same : (n k : ℕ) (q : List ℕ) → 258 ≤ k → line_at n (take k q) ≡ line_at n q
 kept_same n k q few = elim (cases_lt k (length q)) [
-      inl long ↦ kept_long n k q few long
-    | inr short ↦ ap (line_at n) (take_all k q short)
-    ]
+  | inl long ↦ kept_long n k q few long
+  | inr short ↦ ap (line_at n) (take_all k q short)
+]
 
 -- the mark aside, a front is kept of what is kept
 kept_three : (a b c : ℕ) (t : List ℕ) → (is_bom a b c ≡ true) ⊎ (is_bom a b c ≡ false)
-  → (k : ℕ) × ((258 ≤ k) × (strip_bom (take 261 (a ∷ b ∷ c ∷ t)) ≡ take k (strip_bom (a ∷ b ∷ c ∷ t))))
+    → (k : ℕ) × ((258 ≤ k) × (strip_bom (take 261 (a ∷ b ∷ c ∷ t)) ≡ take k (strip_bom (a ∷ b ∷ c ∷ t))))
 unfolding strip_bom
 kept_three a b c t (inl h) = (258, (omega arith, rw h refl))
 kept_three a b c t (inr h) = (261, (omega arith, rw h refl))
@@ -239,9 +239,9 @@ kept_first (a ∷ b ∷ c ∷ t) = kept_three a b c t (cases_Bool (is_bom a b c)
 
 unmarked_kept : (n : ℕ) (q : List ℕ) → (k : ℕ) × ((258 ≤ k) × (unmarked n (take 261 q) ≡ take k (unmarked n q)))
 unmarked_kept n q = elim (nat_eq n 0) as (λ t. (k : ℕ) × ((258 ≤ k) × (cond t (strip_bom (take 261 q)) (take 261 q) ≡ take k (cond t (strip_bom q) q)))) [
-      true ↦ kept_first q
-    | false ↦ (261, (omega arith, refl))
-    ]
+  | true ↦ kept_first q
+  | false ↦ (261, (omega arith, refl))
+]
 
 pub line_kept : (m n : ℕ) (q : List ℕ) → line_at m (unmarked n (take 261 q)) ≡ line_at m (unmarked n q)
 line_kept m n q =
@@ -275,9 +275,9 @@ kept_more (x ∷ xs) ys (suc n) = ap (λ z. x ∷ z) (kept_more xs ys n)
 
 -- a piece that ends no line
 pub fed_none : (e : Bool) → e ≡ false → (w : List TextLine) (n : ℕ) (kept : List ℕ) (stream piece : List ℕ) (handed : List TextLine)
-  → ((q : List ℕ) → ended_from q piece ≡ []) → ((q : List ℕ) → rest_from q piece ≡ q ++ piece)
-  → IsCutOf (record { waiting = w; count = n; rest = kept; ended = e }) stream handed
-  → IsCutOf (record { waiting = w; count = n; rest = take 261 (kept ++ piece); ended = e }) (stream ++ piece) handed
+    → ((q : List ℕ) → ended_from q piece ≡ []) → ((q : List ℕ) → rest_from q piece ≡ q ++ piece)
+    → IsCutOf (record { waiting = w; count = n; rest = kept; ended = e }) stream handed
+    → IsCutOf (record { waiting = w; count = n; rest = take 261 (kept ++ piece); ended = e }) (stream ++ piece) handed
 fed_none true still w n kept stream piece handed none all cut = absurd (true≢false still)
 fed_none false still w n kept stream piece handed none all cut =
     let ends : ended_from [] (stream ++ piece) ≡ ended_from [] stream = ended_from-append [] stream piece ∙ ap (λ z. ended_from [] stream ++ z) (none (rest_from [] stream)) ∙ append-nil (ended_from [] stream) in
@@ -285,16 +285,16 @@ fed_none false still w n kept stream piece handed none all cut =
     record {
       lines = cut.lines ∙ raw_lines stream ∙ sym (ap (cut_lines 0) ends) ∙ sym (raw_lines (stream ++ piece));
       count = cut.count ∙ sym (ap (number_after 0) ends);
-      rest = ap (λ z. take 261 (z ++ piece)) cut.rest ∙ kept_more (rest_from [] stream) piece 261 ∙ sym (ap (take 261) rests)
+      rest = ap (λ z. take 261 (z ++ piece)) cut.rest ∙ kept_more (rest_from [] stream) piece 261 ∙ sym (ap (take 261) rests);
     }
 
 -- a piece that ends lines
 pub fed_some : (e : Bool) → e ≡ false → (w more : List TextLine) (n m : ℕ) (kept first head after rest : List ℕ) (stream piece : List ℕ) (handed : List TextLine)
-  → ((q : List ℕ) → ended_from q piece ≡ (q ++ head) ∷ ended_from [] after) → ((q : List ℕ) → rest_from q piece ≡ rest_from [] after)
-  → first ≡ take 261 (kept ++ head) → more ≡ w ++ numbered n (unmarked n first ∷ ended_from [] after)
-  → m ≡ number_after n (first ∷ ended_from [] after) → rest ≡ take 261 (rest_from [] after)
-  → IsCutOf (record { waiting = w; count = n; rest = kept; ended = e }) stream handed
-  → IsCutOf (record { waiting = more; count = m; rest = rest; ended = e }) (stream ++ piece) handed
+    → ((q : List ℕ) → ended_from q piece ≡ (q ++ head) ∷ ended_from [] after) → ((q : List ℕ) → rest_from q piece ≡ rest_from [] after)
+    → first ≡ take 261 (kept ++ head) → more ≡ w ++ numbered n (unmarked n first ∷ ended_from [] after)
+    → m ≡ number_after n (first ∷ ended_from [] after) → rest ≡ take 261 (rest_from [] after)
+    → IsCutOf (record { waiting = w; count = n; rest = kept; ended = e }) stream handed
+    → IsCutOf (record { waiting = more; count = m; rest = rest; ended = e }) (stream ++ piece) handed
 unfolding numbered number_after
 fed_some true still w more n m kept first head after rest stream piece handed found behind is_first is_more is_m is_rest cut = absurd (true≢false still)
 fed_some false still w more n m kept first head after rest stream piece handed found behind is_first is_more is_m is_rest cut =
@@ -306,39 +306,39 @@ fed_some false still w more n m kept first head after rest stream piece handed f
     let whole : first ≡ take 261 (r ++ head) = is_first ∙ ap (λ z. take 261 (z ++ head)) cut.rest ∙ kept_more r head 261 in
     let number : n ≡ number_after 0 es = cut.count in
     let same : numbered n (unmarked n first ∷ qs) ≡ numbered n (unmarked n (r ++ head) ∷ qs)
-      = ap (λ z. line_at (next_number n) (unmarked n z) ∷ numbered (next_number n) qs) whole
-        ∙ ap (λ z. z ∷ numbered (next_number n) qs) (line_kept (next_number n) n (r ++ head)) in
+    = ap (λ z. line_at (next_number n) (unmarked n z) ∷ numbered (next_number n) qs) whole
+    ∙ ap (λ z. z ∷ numbered (next_number n) qs) (line_kept (next_number n) n (r ++ head)) in
     let all : cut_lines 0 (es ++ (r ++ head) ∷ qs) ≡ cut_lines 0 es ++ numbered n (unmarked n (r ++ head) ∷ qs)
-      = rw number (cut_lines-more es (r ++ head) qs) in
+    = rw number (cut_lines-more es (r ++ head) qs) in
     record {
       lines = ap (λ z. handed ++ z) is_more ∙ sym (append_assoc handed w (numbered n (unmarked n first ∷ qs)))
-        ∙ ap (λ z. z ++ numbered n (unmarked n first ∷ qs)) (cut.lines ∙ raw_lines stream)
-        ∙ ap (λ z. cut_lines 0 es ++ z) same ∙ sym all ∙ sym (ap (cut_lines 0) ends) ∙ sym (raw_lines (stream ++ piece));
+          ∙ ap (λ z. z ++ numbered n (unmarked n first ∷ qs)) (cut.lines ∙ raw_lines stream)
+          ∙ ap (λ z. cut_lines 0 es ++ z) same ∙ sym all ∙ sym (ap (cut_lines 0) ends) ∙ sym (raw_lines (stream ++ piece));
       count = is_m ∙ ap (λ z. number_after (next_number z) qs) number ∙ sym (number_after-append 0 es ((r ++ head) ∷ qs)) ∙ sym (ap (number_after 0) ends);
-      rest = is_rest ∙ sym (ap (take 261) rests)
+      rest = is_rest ∙ sym (ap (take 261) rests);
     }
 
 -- the end of a stream
 pub finished : (e : Bool) → e ≡ false → (w more : List TextLine) (n : ℕ) (kept : List ℕ) (stream : List ℕ) (handed : List TextLine)
-  → more ≡ w ++ numbered n (last_piece (unmarked n kept))
-  → IsCutOf (record { waiting = w; count = n; rest = kept; ended = e }) stream handed
-  → IsCutOf (record { waiting = more; count = n; rest = kept; ended = true }) stream handed
+    → more ≡ w ++ numbered n (last_piece (unmarked n kept))
+    → IsCutOf (record { waiting = w; count = n; rest = kept; ended = e }) stream handed
+    → IsCutOf (record { waiting = more; count = n; rest = kept; ended = true }) stream handed
 finished true still w more n kept stream handed is_more cut = absurd (true≢false still)
 finished false still w more n kept stream handed is_more cut =
     let r : List ℕ = rest_from [] stream in
     let last : numbered n (last_piece (unmarked n kept)) ≡ numbered n (last_piece (unmarked n r))
-      = ap (λ z. numbered n (last_piece (unmarked n z))) cut.rest ∙ last_kept n r in
+    = ap (λ z. numbered n (last_piece (unmarked n z))) cut.rest ∙ last_kept n r in
     record {
       lines = ap (λ z. handed ++ z) is_more ∙ sym (append_assoc handed w (numbered n (last_piece (unmarked n kept))))
-        ∙ ap (λ z. z ++ numbered n (last_piece (unmarked n kept))) cut.lines
-        ∙ ap (λ z. ended_lines stream ++ z) (last ∙ ap (λ z. numbered z (last_piece (unmarked z r))) cut.count) ∙ sym (whole_lines stream);
+          ∙ ap (λ z. z ++ numbered n (last_piece (unmarked n kept))) cut.lines
+          ∙ ap (λ z. ended_lines stream ++ z) (last ∙ ap (λ z. numbered z (last_piece (unmarked z r))) cut.count) ∙ sym (whole_lines stream);
       count = cut.count;
-      rest = cut.rest
+      rest = cut.rest;
     }
 
 -- one line more behind those that wait, and the lines of the pieces after it
 pub added : (all w : List TextLine) (n m : ℕ) (p q : List ℕ) (ps : List (List ℕ)) → all ≡ w ++ line_at m q ∷ [] → m ≡ next_number n → q ≡ p
-  → all ++ numbered m ps ≡ w ++ numbered n (p ∷ ps)
+    → all ++ numbered m ps ≡ w ++ numbered n (p ∷ ps)
 unfolding numbered
 added all w n m p q ps is_all is_m is_q = rw (is_all, is_m, is_q, append_assoc w (line_at (next_number n) p ∷ []) (numbered (next_number n) ps)) refl
 
@@ -369,5 +369,5 @@ kept_front xs ys n h = take-take (length xs) n (xs ++ ys) h ∙ take_at xs ys (l
 
 -- a cutting that was put back is the one before
 pub restored : (s : Cutting) (w v : List TextLine) (n : ℕ) (r q : List ℕ) (e : Bool) → s ≡ record { waiting = w; count = n; rest = r; ended = e } → v ≡ w → q ≡ r
-  → s ≡ record { waiting = v; count = n; rest = q; ended = e }
+    → s ≡ record { waiting = v; count = n; rest = q; ended = e }
 restored s w v n r q e h i j = rw (i, j) h

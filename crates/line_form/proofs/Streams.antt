@@ -1,8 +1,8 @@
 -- How a stream is cut at its line feeds.
-use Rattle.std.proofs.Common.{◌≡◌, ◌≢◌, ◌≤◌, ◌<◌, ◌+◌, ◌-◌, ◌∙◌, ℕ, zero, suc, Bool, true, false, cond, nat_eq, List, [], ◌∷◌, ◌++◌, length, take, drop, get_or, refl, sym, ap, arith, add-one, append_assoc}
+use Rattle.std.proofs.Common.{◌≡◌, ◌≤◌, ◌<◌, ◌+◌, ◌-◌, ◌∙◌, ℕ, zero, suc, true, false, cond, nat_eq, List, [], ◌∷◌, ◌++◌, length, take, drop, get_or, refl, sym, ap, arith, append_assoc}
 use Rattle.std.proofs.lemmas.List.{append-nil}
 use Rattle.std.proofs.lemmas.Bool.{false_from_ne_true, ne_eqb}
-use Rattle.std.proofs.lemmas.List.{take_min, length-append}
+use Rattle.std.proofs.lemmas.List.{take_min}
 use Rattle.std.proofs.Math.Seq.{take-append-add}
 use Rattle.std.proofs.Common.{min}
 use Rattle.std.specs.Cmp.Lexicographic.{pointwise}
@@ -23,7 +23,7 @@ no_feed_first b bs n none = false_from_ne_true (nat_eq b 10) (none 0 (omega arit
 
 -- the first line feed ends a piece
 pub ended_from-found : (p bs : List ℕ) (k : ℕ) → k < length bs → NoFeedBelow bs k → nat_eq (get_or bs k 0) 10 ≡ true
-  → ended_from p bs ≡ (p ++ take k bs) ∷ ended_from [] (drop (suc k) bs)
+    → ended_from p bs ≡ (p ++ take k bs) ∷ ended_from [] (drop (suc k) bs)
 unfolding ended_from
 ended_from-found p [] k lt none hit = absurd (omega arith)
 ended_from-found p (b ∷ bs) zero lt none hit = rw (hit, append-nil) refl
@@ -33,7 +33,7 @@ ended_from-found p (b ∷ bs) (suc k) lt none hit =
     rw no (later ∙ ap (λ x. x ∷ ended_from [] (drop (suc k) bs)) (append_assoc p (b ∷ []) (take k bs)))
 
 pub rest_from-found : (p bs : List ℕ) (k : ℕ) → k < length bs → NoFeedBelow bs k → nat_eq (get_or bs k 0) 10 ≡ true
-  → rest_from p bs ≡ rest_from [] (drop (suc k) bs)
+    → rest_from p bs ≡ rest_from [] (drop (suc k) bs)
 unfolding rest_from
 rest_from-found p [] k lt none hit = absurd (omega arith)
 rest_from-found p (b ∷ bs) zero lt none hit = rw hit refl
@@ -62,10 +62,10 @@ unfolding ended_from rest_from
 ended_from-append p [] ys = refl
 ended_from-append p (x ∷ xs) ys =
     elim (nat_eq x 10) as (λ t. cond t (p ∷ ended_from [] (xs ++ ys)) (ended_from (p ++ x ∷ []) (xs ++ ys))
-      ≡ cond t (p ∷ ended_from [] xs) (ended_from (p ++ x ∷ []) xs)
-      ++ ended_from (cond t (rest_from [] xs) (rest_from (p ++ x ∷ []) xs)) ys) [
-      true ↦ ap (λ z. p ∷ z) (ended_from-append [] xs ys)
-    | false ↦ ended_from-append (p ++ x ∷ []) xs ys
+    ≡ cond t (p ∷ ended_from [] xs) (ended_from (p ++ x ∷ []) xs)
+    ++ ended_from (cond t (rest_from [] xs) (rest_from (p ++ x ∷ []) xs)) ys) [
+      | true ↦ ap (λ z. p ∷ z) (ended_from-append [] xs ys)
+      | false ↦ ended_from-append (p ++ x ∷ []) xs ys
     ]
 
 pub rest_from-append : (p xs ys : List ℕ) → rest_from p (xs ++ ys) ≡ rest_from (rest_from p xs) ys
@@ -73,9 +73,9 @@ unfolding rest_from
 rest_from-append p [] ys = refl
 rest_from-append p (x ∷ xs) ys =
     elim (nat_eq x 10) as (λ t. cond t (rest_from [] (xs ++ ys)) (rest_from (p ++ x ∷ []) (xs ++ ys))
-      ≡ rest_from (cond t (rest_from [] xs) (rest_from (p ++ x ∷ []) xs)) ys) [
-      true ↦ rest_from-append [] xs ys
-    | false ↦ rest_from-append (p ++ x ∷ []) xs ys
+    ≡ rest_from (cond t (rest_from [] xs) (rest_from (p ++ x ∷ []) xs)) ys) [
+      | true ↦ rest_from-append [] xs ys
+      | false ↦ rest_from-append (p ++ x ∷ []) xs ys
     ]
 
 -- what is kept of a list and what comes after it, up to a bound

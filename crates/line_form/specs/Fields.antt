@@ -1,5 +1,5 @@
 -- The one record of a line, as the crate `csv` reads it.
-use Rattle.std.specs.Prelude.{ℕ, Bool, ◌==◌, ◌||◌, if◌then◌else◌, List, [], ◌∷◌, ◌++◌, Option, Some, None, option_map}
+use Rattle.std.specs.Prelude.{ℕ, Bool, ◌==◌, ◌||◌, if◌then◌else◌, List, [], ◌∷◌, ◌++◌, Option, None, option_map}
 use Rattle.std.specs.List.{list_any}
 use Rattle.csv.specs.Machine.{next_record, carriage_return, line_feed}
 use Rattle.csv.specs.Writing.{comma, quote_mark}

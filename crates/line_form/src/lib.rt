@@ -6,7 +6,10 @@ mod numbers;
 mod reading;
 mod row;
 
-pub use cutting::{Line, Lines};
+pub use cutting::{LONGEST, Line, Lines};
 pub use numbers::read_number;
-pub use reading::{LineFault, fields};
+pub use reading::{LineFault, fields, plain_text_is_its_parts};
 pub use row::Fields;
+
+#[cfg(test)]
+mod tests;

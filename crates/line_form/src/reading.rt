@@ -1,10 +1,11 @@
 // The fields of a line.
 
-ghost use Rattle.std.specs.Prelude.{◌≡◌, ◌==◌, ◌↔◌, [], true, false, is_some, IfOk, IfErr};
+ghost use Rattle.std.specs.Prelude.{◌≡◌, ◌≢◌, ◌==◌, ◌↔◌, ℕ, List, [], true, false, is_some, IfOk, IfErr};
 ghost use Rattle.std.specs.Bool.{OnTrue, OnFalse};
 ghost use Rattle.std.specs.List.{list_any, list_all};
 ghost use Rattle.csv.specs.Machine.{carriage_return, line_feed};
-ghost use Rattle.line_form.specs.Fields.{csv_record, record_of, parts_from};
+ghost use Rattle.csv.specs.Reading.{strip_bom};
+ghost use Rattle.line_form.specs.Fields.{csv_record, record_of, parts_from, is_special};
 
 use crate::cutting::{Line, first_piece};
 use crate::row::Fields;
@@ -50,6 +51,12 @@ pub fn fields(alloc: Global, line: &Line) -> Result<Fields<'_>, LineFault>
     }
     read_by_csv(alloc, text)
 }
+
+/// A text in which no double quote, line feed or carriage return stands, and which doesn't begin with a byte order mark,
+/// reads as its parts between commas.
+pub fn plain_text_is_its_parts()
+    ensures { (text : List ℕ) → text ≢ [] → list_any is_special text ≡ false → strip_bom text ≡ text → csv_record text ≡ Some (parts_from [] text) }
+{}
 
 /// Whether the bytes of a line are nothing but fields and commas: no quote and no line end stands in them, and they
 /// begin with no byte of a mark.

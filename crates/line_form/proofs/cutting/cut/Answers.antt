@@ -1,5 +1,5 @@
 -- Each turn adds the line of the next piece.
-use Rattle.std.proofs.Common.{◌≡◌, ◌++◌, ◌∷◌, ◌∙◌, List, ℕ, [], refl, sym, ap}
+use Rattle.std.proofs.Common.{◌++◌, ◌∙◌, [], refl, sym, ap}
 use Rattle.line_form.specs.Lines.{lines_view, ended_from, numbered, number_after, unmarked}
 use Rattle.line_form.proofs.CutLines.{added, counted, none_added, none_counted, front_of_front}
 use Rattle.line_form.proofs.cutting.cut.Goals as goal
@@ -15,9 +15,9 @@ lines-init c = (
 pub lines-preserved : goal.lines-preserved
 lines-preserved c = (
   added (lines_view c.add_line-in-Some.new.waiting.items) (lines_view c.lines.waiting.items) c.lines.number c.saturating_add-number-in-Some.result c.in-Some.piece.now c.in-Some.piece.now (ended_from [] c.in-Some.more.now) c.in_ok-add_line-2.ensures.ok c.saturating_add-number-in-Some.ensures refl
-    ∙ sym (ap (λ z. lines_view c.lines.waiting.items ++ numbered c.lines.number z) (c.in-Some.ensures.found [])) ∙ c.lines.invariant.0,
+      ∙ sym (ap (λ z. lines_view c.lines.waiting.items ++ numbered c.lines.number z) (c.in-Some.ensures.found [])) ∙ c.lines.invariant.0,
   counted c.lines.number c.saturating_add-number-in-Some.result c.in-Some.piece.now (ended_from [] c.in-Some.more.now) c.saturating_add-number-in-Some.ensures
-    ∙ sym (ap (number_after c.lines.number) (c.in-Some.ensures.found [])) ∙ c.lines.invariant.1,
+      ∙ sym (ap (number_after c.lines.number) (c.in-Some.ensures.found [])) ∙ c.lines.invariant.1,
   sym (c.in-Some.ensures.after []) ∙ c.lines.invariant.2,
   front_of_front c.args.waiting.now.items c.lines.waiting.items c.add_line-in-Some.new.waiting.items c.lines.invariant.3 c.add_line-in-Some.ensures.kept,
 )

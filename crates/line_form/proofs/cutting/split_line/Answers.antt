@@ -10,11 +10,11 @@ none_before : (bs : List ℕ) (k : ℕ) → ((j : ℕ) → 0 ≤ j → j < k →
 none_before bs k h j lt hit = h j (omega arith) lt hit
 
 found : (bs : List ℕ) (k : ℕ) → IsFirstByte (is_byte 10) bs (Some k)
-  → (q : List ℕ) → ended_from q bs ≡ (q ++ take k bs) ∷ ended_from [] (take (length bs - (k + 1)) (drop (k + 1) bs))
+    → (q : List ℕ) → ended_from q bs ≡ (q ++ take k bs) ∷ ended_from [] (take (length bs - (k + 1)) (drop (k + 1) bs))
 found bs k h q = rw (take_rest bs (k + 1), add-one) (ended_from-found q bs k h.0.high (none_before bs k h.0.before) h.1)
 
 after : (bs : List ℕ) (k : ℕ) → IsFirstByte (is_byte 10) bs (Some k)
-  → (q : List ℕ) → rest_from q bs ≡ rest_from [] (take (length bs - (k + 1)) (drop (k + 1) bs))
+    → (q : List ℕ) → rest_from q bs ≡ rest_from [] (take (length bs - (k + 1)) (drop (k + 1) bs))
 after bs k h q = rw (take_rest bs (k + 1), add-one) (rest_from-found q bs k h.0.high (none_before bs k h.0.before) h.1)
 
 none : (bs : List ℕ) → IsFirstByte (is_byte 10) bs None → (q : List ℕ) → ended_from q bs ≡ []

@@ -1,6 +1,5 @@
 -- The last byte decides.
-use Rattle.std.proofs.Common.{◌≡◌, ◌-◌, ℕ, suc, length, sym, arith, List, nat_eq, false, true, ◌<◌}
-use Rattle.std.proofs.lemmas.Bool.{eqb-true, eqb-false}
+use Rattle.std.proofs.Common.{◌≡◌, ◌-◌, suc, length, sym, arith}
 use Rattle.line_form.proofs.Streams.{return_dropped, return_absent, return_empty}
 use Rattle.line_form.proofs.cutting.text_of.Goals as goal
 use Rattle.line_form.proofs.cutting.text_of.Goals.{else-not-is_empty-via-then-not-is_empty+else-piece-eq13, else-not-is_empty-via-else-not-is_empty}
@@ -13,10 +12,10 @@ returns-then-piece-eq13 c =
 pub returns-else-not-is_empty : goal.returns-else-not-is_empty
 returns-else-not-is_empty c =
     elim c.else-not-is_empty.branch [
-      else-not-is_empty-via-then-not-is_empty+else-piece-eq13 w ↦
-        let size : length c.args.piece.now ≡ suc (length c.args.piece.now - 1) = grind (arith, w.if-not-is_empty.ensures) in
-        sym (return_absent c.args.piece.now (length c.args.piece.now - 1) size w.if-piece-eq13.false)
-    | else-not-is_empty-via-else-not-is_empty w ↦
-        let size : length c.args.piece.now ≡ 0 = grind (arith, w.if-not-is_empty.ensures) in
-        sym (return_empty c.args.piece.now size)
+      | else-not-is_empty-via-then-not-is_empty+else-piece-eq13 w ↦
+          let size : length c.args.piece.now ≡ suc (length c.args.piece.now - 1) = grind (arith, w.if-not-is_empty.ensures) in
+          sym (return_absent c.args.piece.now (length c.args.piece.now - 1) size w.if-piece-eq13.false)
+      | else-not-is_empty-via-else-not-is_empty w ↦
+          let size : length c.args.piece.now ≡ 0 = grind (arith, w.if-not-is_empty.ensures) in
+          sym (return_empty c.args.piece.now size)
     ]

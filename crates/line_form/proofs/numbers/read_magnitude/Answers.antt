@@ -11,6 +11,6 @@ loop-digit-preserved c =
     let rest : List ℕ = drop (c.loop-digit.digit-index + 1) c.args.digits.now in
     let cut : min c.min-value.result c.args.most ≡ min (10 * c.loop-digit.value + (d - 48)) c.args.most = omega (arith, c.min-value.ensures) in
     let step : option_map (λ n. min n c.args.most) (digits_from c.min-value.result rest)
-      ≡ option_map (λ n. min n c.args.most) (digits_from (10 * c.loop-digit.value + (d - 48)) rest)
-      = same_cut c.args.most c.min-value.result (10 * c.loop-digit.value + (d - 48)) rest cut in
+    ≡ option_map (λ n. min n c.args.most) (digits_from (10 * c.loop-digit.value + (d - 48)) rest)
+    = same_cut c.args.most c.min-value.result (10 * c.loop-digit.value + (d - 48)) rest cut in
     grind (arith, common_steps)

@@ -1,5 +1,5 @@
 -- The places are those of the commas.
-use Rattle.std.proofs.Common.{◌≡◌, ◌<◌, ◌≤◌, ◌+◌, ◌++◌, ◌∷◌, [], ◌∙◌, ℕ, List, length, drop, sym, ap, subst, arith}
+use Rattle.std.proofs.Common.{◌≡◌, ◌≤◌, ◌+◌, ◌++◌, ◌∙◌, ℕ, List, length, drop, sym, ap, subst, arith}
 use Rattle.std.proofs.Common.{Result, Ok, Err, false}
 use Rattle.std.specs.Result.{is_err, OnOk}
 use Rattle.smallvec.specs.SmallVec.{SmallVec}
@@ -15,13 +15,13 @@ ok_holds (Err e) P h p = cc
 pub loop-i-preserved : goal.loop-i-preserved
 loop-i-preserved c =
     elim c.else-b-eq44.branch [
-      else-b-eq44-via-then-b-eq44+else-is_err w ↦
-        let pushed = ok_holds w.push.result _ (sym w.is_err.ensures.value ∙ w.if-is_err.false) w.push.ensures.ok in
-        ap (λ (v : SmallVec ℕ). v.items ++ commas_from (c.loop-i.i + 1) (drop (c.loop-i.i + 1) c.args.text.now)) w.commas-is
+      | else-b-eq44-via-then-b-eq44+else-is_err w ↦
+          let pushed = ok_holds w.push.result _ (sym w.is_err.ensures.value ∙ w.if-is_err.false) w.push.ensures.ok in
+          ap (λ (v : SmallVec ℕ). v.items ++ commas_from (c.loop-i.i + 1) (drop (c.loop-i.i + 1) c.args.text.now)) w.commas-is
           ∙ ap (λ (es : List ℕ). es ++ commas_from (c.loop-i.i + 1) (drop (c.loop-i.i + 1) c.args.text.now)) pushed
           ∙ sym (commas_found c.loop-i.commas.items c.loop-i.i c.args.text.now c.loop-i-test.true w.if-b-eq44.true) ∙ c.loop-i.invariant
-    | else-b-eq44-via-else-b-eq44 w ↦
-        ap (λ (v : SmallVec ℕ). v.items ++ commas_from (c.loop-i.i + 1) (drop (c.loop-i.i + 1) c.args.text.now)) w.commas-is
+      | else-b-eq44-via-else-b-eq44 w ↦
+          ap (λ (v : SmallVec ℕ). v.items ++ commas_from (c.loop-i.i + 1) (drop (c.loop-i.i + 1) c.args.text.now)) w.commas-is
           ∙ sym (commas_step c.loop-i.commas.items c.loop-i.i c.args.text.now c.loop-i-test.true w.if-b-eq44.false) ∙ c.loop-i.invariant
     ]
 

@@ -1,5 +1,5 @@
 -- No special byte was found.
-use Rattle.std.proofs.Common.{◌≡◌, ◌<◌, ◌∙◌, ℕ, List, Option, Some, None, true, false, not, length, get_or, sym, ap, arith}
+use Rattle.std.proofs.Common.{◌≡◌, ◌<◌, ◌∙◌, ℕ, List, Option, Some, None, false, not, length, ap, arith}
 use Rattle.std.specs.Option.{is_some}
 use Rattle.std.specs.List.{list_any}
 use Rattle.std.proofs.lemmas.Bool.{OnTrue_from}
@@ -16,4 +16,4 @@ pub returns-then-text : goal.returns-then-text
 returns-then-text c =
     let some : 0 < length c.args.text.now = grind (arith, c.if-is_empty.ensures) in
     OnTrue_from c.is_none.result _ (λ e.
-      plain_line c.args.text.now some c.if-text.true (none_found c.args.text.now c.memchr3.result c.memchr3.ensures (c.is_none.ensures ∙ ap not e)))
+    plain_line c.args.text.now some c.if-text.true (none_found c.args.text.now c.memchr3.result c.memchr3.ensures (c.is_none.ensures ∙ ap not e)))

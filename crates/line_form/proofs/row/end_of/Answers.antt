@@ -1,6 +1,5 @@
 -- The comma after a part lies in the bytes.
-use Rattle.std.proofs.Common.{◌≡◌, ◌≤◌, ◌<◌, ◌+◌, ℕ, length, get_or, sym, arith}
-use Rattle.line_form.specs.Commas.{end_at}
+use Rattle.std.proofs.Common.{sym, arith}
 use Rattle.line_form.proofs.CommaPlaces.{rising_place, end_at-here, end_at-past}
 use Rattle.line_form.proofs.row.end_of.Goals as goal
 

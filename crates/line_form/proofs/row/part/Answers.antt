@@ -1,5 +1,5 @@
 -- The part between two commas.
-use Rattle.std.proofs.Common.{◌≡◌, sym}
+use Rattle.std.proofs.Common.{sym}
 use Rattle.line_form.proofs.CommaPlaces.{get_or-cut_at}
 use Rattle.line_form.proofs.row.part.Goals as goal
 

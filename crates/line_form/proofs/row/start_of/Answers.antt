@@ -1,5 +1,5 @@
 -- The comma before a part lies in the bytes.
-use Rattle.std.proofs.Common.{◌≡◌, ◌≤◌, ◌<◌, ◌+◌, ◌-◌, ◌∙◌, ℕ, zero, suc, length, get_or, refl, sym, ap, arith, subst}
+use Rattle.std.proofs.Common.{◌≡◌, ◌≤◌, ◌+◌, ◌-◌, ℕ, suc, get_or, sym, arith, subst}
 use Rattle.line_form.specs.Commas.{start_at, end_at}
 use Rattle.line_form.proofs.CommaPlaces.{rising_place, start_at-later, start_at-zero, part_order}
 use Rattle.line_form.proofs.row.start_of.Goals as goal

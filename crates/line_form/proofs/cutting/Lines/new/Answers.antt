@@ -1,6 +1,5 @@
 -- Nothing has come, and nothing is cut.
-use Rattle.std.proofs.Common.{◌≡◌, [], List, ℕ, false, refl, ap}
-use Rattle.line_form.specs.Lines.{IsCutOf, lines_view}
+use Rattle.std.proofs.Common.{refl}
 use Rattle.line_form.proofs.CutLines.{nothing_cut}
 use Rattle.line_form.proofs.cutting.Lines.new.Goals as goal
 

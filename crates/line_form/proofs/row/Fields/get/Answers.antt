@@ -1,5 +1,5 @@
 -- The field at a place is there.
-use Rattle.std.proofs.Common.{◌≡◌, ◌≤◌, ◌<◌, ◌+◌, ◌∙◌, List, ℕ, length, sym, ap, subst, arith, get_or}
+use Rattle.std.proofs.Common.{◌≡◌, ◌<◌, ◌+◌, ◌∙◌, List, ℕ, length, sym, ap, arith, get_or}
 use Rattle.std.proofs.Common.{[], ◌∷◌, zero, suc, Option, Some, None, option_map, Bor, refl}
 use Rattle.std.specs.Option.{IsSome}
 use Rattle.csv.specs.Records.{field_at, fields_of}

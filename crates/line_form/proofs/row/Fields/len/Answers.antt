@@ -1,5 +1,5 @@
 -- One field more than commas.
-use Rattle.std.proofs.Common.{◌≡◌, ◌+◌, ◌∙◌, List, ℕ, length, sym, ap}
+use Rattle.std.proofs.Common.{◌+◌, ◌∙◌, List, ℕ, length, sym, ap}
 use Rattle.line_form.specs.Held.{fields_in}
 use Rattle.line_form.proofs.CommaPlaces.{length-cut_at}
 use Rattle.line_form.proofs.row.Fields.len.Goals as goal
