@@ -188,14 +188,14 @@ fn line_of(alloc: Global, piece: &[u8], number: u64) -> Result<Line, Memory>
     ensures { IfOk result (λ l. line_view l ≡ line_at number piece.now) }
 {
     let piece = text_of(piece);
-    let mut text = Vec::new(alloc);
     if piece.len() > LONGEST {
         return Ok(Line {
             number,
             long: true,
-            text,
+            text: Vec::new(alloc),
         });
     }
+    let mut text = Vec::with_capacity(alloc, piece.len())?;
     text.extend_from_slice(piece)?;
     Ok(Line {
         number,

@@ -8,7 +8,7 @@ use smallvec::SmallVec;
 use std::marker::Model;
 
 /// How many commas of a line are kept with no allocation.
-const INLINE: usize = 8;
+const INLINE: usize = 4;
 
 /// The fields of one line, in their order; each is the bytes between two commas, or between its quotes.
 #[derive(Drop)]
