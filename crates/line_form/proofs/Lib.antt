@@ -1,0 +1,5 @@
+pub mod Streams
+pub mod CutNumbers
+pub mod CutLines
+pub mod CsvRecords
+pub mod CommaPlaces

@@ -1,0 +1,5 @@
+pub mod Lines
+pub mod Fields
+pub mod Commas
+pub mod Held
+pub mod Number
