@@ -1,0 +1,4 @@
+pub mod Quarters
+pub mod Years
+pub mod Duality
+pub mod Whole
