@@ -1,11 +1,11 @@
 -- Weak duality over all quarters: the sum of the quarters' parts.
 use Rattle.std.specs.Prelude.{◌≡◌, ℕ, ◌+◌, ℤ, pos, ◌+ℤ◌, ◌-ℤ◌, ◌*ℤ◌, neg_ℤ, ◌≤ℤ◌, ◌<ℤ◌, List, [], ◌∷◌, ◌++◌, length, map}
-use Rattle.std.proofs.Common.{refl, sym, ◌∙◌, ap, arith, zero, suc}
+use Rattle.std.proofs.Common.{refl, ◌∙◌, arith, suc}
 use Rattle.std.proofs.Math.IntN.{*ℤ-zero}
-use Rattle.ratio_arith.proofs.Linear.{linear, literal_product}
+use Rattle.ratio_arith.proofs.Linear.{linear}
 use Rattle.ratio_arith.proofs.Products.{*ℤ-+ℤ}
 use Rattle.denton_parts.specs.Ratios.{square, squared_changes_from, scaled_ratios}
-use Rattle.ratio_arith.proofs.Ring.{same_by_ring, var, num, ◌⊕◌, ◌⊖◌, ◌⊗◌, neg}
+use Rattle.ratio_arith.proofs.Ring.{same_by_ring, var, num, ◌⊗◌, neg}
 use Rattle.denton_parts.specs.Benchmarks.{MeetsBenchmarks}
 use Rattle.denton_parts.specs.Changes.{Fraction, no_change, changes_from}
 use Rattle.denton_parts.specs.Gap.{distance_of, gap_from}

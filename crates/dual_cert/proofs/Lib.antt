@@ -5,3 +5,4 @@ pub mod Whole
 pub mod Sizes
 pub mod Parts
 pub mod Steps
+pub mod Totals

@@ -1,8 +1,8 @@
 -- The changes of a run are those of its years: by the place of a quarter, and against the changes of the whole run.
-use Rattle.std.specs.Prelude.{◌≡◌, ℕ, ◌+◌, ◌*◌, ◌/◌, ◌%◌, ◌≤◌, ◌<◌, ℤ, pos, List, [], ◌∷◌, ◌++◌, length, map}
+use Rattle.std.specs.Prelude.{◌≡◌, ℕ, ◌+◌, ◌*◌, ◌/◌, ◌%◌, ◌≤◌, ◌<◌, ℤ, pos, List, [], ◌∷◌, ◌++◌, length}
 use Rattle.std.proofs.Common.{refl, sym, ◌∙◌, ap, arith, zero, suc, get_or}
 use Rattle.std.proofs.Math.ListN.{get_or-append, get_or-map, length-append}
-use Rattle.denton_parts.specs.Changes.{Fraction, no_change, change_of, changes_from}
+use Rattle.denton_parts.specs.Changes.{no_change, changes_from}
 use Rattle.denton_parts.specs.Year.{change_in_year}
 use Rattle.denton_parts.specs.declared.year.YearPart.{YearPart}
 use Rattle.dual_cert.specs.Parts.{BeginsWithYears, year_changes_from, year_change}

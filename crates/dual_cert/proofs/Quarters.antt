@@ -1,11 +1,11 @@
 -- One quarter's part of weak duality: the squared change of a series against that of any other, the distance to the given change, and a term that is linear in the two.
 use Rattle.std.specs.Prelude.{◌≡◌, ℕ, max, ℤ, pos, ◌+ℤ◌, ◌-ℤ◌, ◌*ℤ◌, neg_ℤ, ◌≤ℤ◌, ◌<ℤ◌, List, [], ◌∷◌, unsigned_abs}
-use Rattle.std.proofs.Common.{refl, sym, ◌∙◌, ap, arith}
+use Rattle.std.proofs.Common.{refl, ap, arith}
 use Rattle.std.proofs.lemmas.Int.{ints, by_lt_z}
 use Rattle.ratio_arith.specs.Division.{floor_of, ceil_of}
 use Rattle.ratio_arith.proofs.Floors.{floor_is, ceil_is}
-use Rattle.ratio_arith.proofs.Linear.{linear, literal_product}
-use Rattle.ratio_arith.proofs.Order.{product_mono, product_nonneg, product_strict, square_nonneg, square_within, le_from_rest, product_cancel}
+use Rattle.ratio_arith.proofs.Linear.{linear}
+use Rattle.ratio_arith.proofs.Order.{product_mono, product_nonneg, product_strict, square_nonneg, square_within, le_from_rest}
 use Rattle.ratio_arith.proofs.Ring.{same_by_ring, var, num, ◌⊕◌, ◌⊖◌, ◌⊗◌, neg}
 use Rattle.denton_parts.specs.Ratios.{square}
 use Rattle.denton_parts.specs.Changes.{Fraction}

@@ -1,10 +1,10 @@
 -- The steps of the loop that adds up the squared distances.
-use Rattle.std.specs.Prelude.{◌≡◌, ℕ, ◌+◌, ◌-◌, ◌*◌, ◌/◌, ◌^◌, ◌≤◌, ◌<◌, max, ℤ, pos, ◌≤ℤ◌, ◌+ℤ◌, ◌-ℤ◌, ◌*ℤ◌, List, [], ◌∷◌, ◌++◌, length, drop, map, unsigned_abs}
-use Rattle.std.proofs.Common.{refl, sym, ◌∙◌, ap, arith, zero, suc, get_or}
+use Rattle.std.specs.Prelude.{◌≡◌, ℕ, ◌+◌, ◌-◌, ◌*◌, ◌≤◌, ◌<◌, max, ℤ, pos, ◌≤ℤ◌, ◌+ℤ◌, ◌-ℤ◌, ◌*ℤ◌, List, [], ◌∷◌, length, drop, unsigned_abs}
+use Rattle.std.proofs.Common.{refl, ◌∙◌, ap, arith, zero, suc, get_or}
 use Rattle.std.proofs.Math.ListN.{drop_of_length-le, length-map}
 use Rattle.denton_parts.specs.Ratios.{square}
 use Rattle.ratio_arith.proofs.Linear.{linear}
-use Rattle.denton_parts.specs.Changes.{Fraction, no_change, changes_from, change_of}
+use Rattle.denton_parts.specs.Changes.{Fraction, no_change, changes_from}
 use Rattle.denton_parts.specs.declared.quotient.Quotient.{Quotient}
 use Rattle.dual_cert.specs.Parts.{AreBoundsOf}
 use Rattle.denton_parts.specs.Gap.{low_of, high_of, distance_of, gap_from, gap_by}

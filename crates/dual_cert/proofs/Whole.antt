@@ -1,15 +1,15 @@
 -- Weak duality for whole series: the changes' denominators have a common multiple, all lists stand side by side, and both multiples are taken off at the end.
-use Rattle.std.specs.Prelude.{◌≡◌, ℕ, ◌+◌, ◌≤◌, ◌<◌, ℤ, pos, ◌+ℤ◌, ◌-ℤ◌, ◌*ℤ◌, neg_ℤ, ◌≤ℤ◌, ◌<ℤ◌, List, [], ◌∷◌, ◌++◌, length, map, slice_index, EachIndex}
-use Rattle.std.proofs.Common.{refl, sym, ◌∙◌, ap, arith, zero, suc}
+use Rattle.std.specs.Prelude.{◌≡◌, ℕ, ◌+◌, ◌≤◌, ℤ, pos, ◌+ℤ◌, ◌-ℤ◌, ◌*ℤ◌, neg_ℤ, ◌≤ℤ◌, ◌<ℤ◌, List, [], ◌∷◌, ◌++◌, length, map, slice_index, EachIndex}
+use Rattle.std.proofs.Common.{refl, ◌∙◌, ap, arith, suc}
 use Rattle.std.proofs.Math.IntN.{*ℤ-zero}
-use Rattle.ratio_arith.proofs.Linear.{linear, literal_product}
+use Rattle.ratio_arith.proofs.Linear.{linear}
 use Rattle.ratio_arith.proofs.Order.{product_strict, product_cancel}
-use Rattle.ratio_arith.proofs.Ring.{same_by_ring, var, num, ◌⊕◌, ◌⊖◌, ◌⊗◌, neg}
+use Rattle.ratio_arith.proofs.Ring.{same_by_ring, var, num, ◌⊕◌, ◌⊖◌, ◌⊗◌}
 use Rattle.denton_parts.specs.Benchmarks.{MeetsBenchmarks}
 use Rattle.denton_parts.specs.Ratios.{square, AreFactors, objective, squared_changes_from, scaled_ratios, IsWithinGap}
-use Rattle.denton_parts.specs.Changes.{Fraction, no_change, change_of, changes_from, changes}
+use Rattle.denton_parts.specs.Changes.{Fraction, no_change, changes_from, changes}
 use Rattle.denton_parts.specs.Gap.{gap_from, gap_by}
-use Rattle.dual_cert.proofs.Quarters.{QuarterFits, of_series, of_other, of_gap, of_balance}
+use Rattle.dual_cert.proofs.Quarters.{of_series, of_other, of_gap, of_balance}
 use Rattle.dual_cert.proofs.Duality.{Aligned, no_quarters, next_quarter, balance_from, duality_from, weigh_run}
 
 -- as many changes as indicators, each with a positive denominator

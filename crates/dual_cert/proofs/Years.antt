@@ -1,10 +1,10 @@
 -- One benchmarked year's part of the balance, by parts: inside a year the changes fall by multiples of the indicators, so the differences of two series that meet one benchmark drop out.
-use Rattle.std.specs.Prelude.{◌≡◌, ℕ, ◌+◌, ℤ, pos, ◌+ℤ◌, ◌-ℤ◌, ◌*ℤ◌, neg_ℤ, ◌≤ℤ◌, ◌<ℤ◌, List, [], ◌∷◌}
+use Rattle.std.specs.Prelude.{◌≡◌, ℕ, ◌+◌, ℤ, pos, ◌+ℤ◌, ◌-ℤ◌, ◌*ℤ◌, neg_ℤ, ◌<ℤ◌, [], ◌∷◌}
 use Rattle.std.proofs.Common.{refl, sym, ◌∙◌, ap, arith}
-use Rattle.ratio_arith.proofs.Linear.{linear, literal_product}
+use Rattle.ratio_arith.proofs.Linear.{linear}
 use Rattle.ratio_arith.proofs.Order.{product_cancel_same}
-use Rattle.ratio_arith.proofs.Ring.{same_by_ring, var, num, ◌⊕◌, ◌⊖◌, ◌⊗◌, neg}
-use Rattle.denton_parts.specs.Changes.{Fraction, change_of}
+use Rattle.ratio_arith.proofs.Ring.{same_by_ring, var, num, ◌⊕◌, ◌⊖◌, ◌⊗◌}
+use Rattle.denton_parts.specs.Changes.{change_of}
 
 -- a year by parts: the weighed changes of four ratios w0 to w3 after w, and what follows
 by_parts : (q left right w w0 w1 w2 w3 t : ℤ) (i0 i1 i2 i3 : ℕ) → q *ℤ (change_of left right (i0 + i1 + i2 + i3) 0).numerator *ℤ (w0 -ℤ w) +ℤ (q *ℤ (change_of left right (i0 + i1 + i2 + i3) i0).numerator *ℤ (w1 -ℤ w0) +ℤ (q *ℤ (change_of left right (i0 + i1 + i2 + i3) (i0 + i1)).numerator *ℤ (w2 -ℤ w1) +ℤ (q *ℤ (change_of left right (i0 + i1 + i2 + i3) (i0 + i1 + i2)).numerator *ℤ (w3 -ℤ w2) +ℤ t))) ≡ q *ℤ (left -ℤ right) *ℤ (pos i0 *ℤ w0 +ℤ pos i1 *ℤ w1 +ℤ pos i2 *ℤ w2 +ℤ pos i3 *ℤ w3) +ℤ q *ℤ pos (i0 + i1 + i2 + i3) *ℤ (right *ℤ w3 -ℤ left *ℤ w) +ℤ t

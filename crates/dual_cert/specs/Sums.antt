@@ -1,5 +1,5 @@
 -- The sums of the benchmarked years, year by year.
-use Rattle.std.specs.Prelude.{◌≡◌, ◌≢◌, ℕ, ◌+◌, ◌*◌, ◌<◌, ℤ, pos, ◌+ℤ◌, List, length, slice_index_or}
+use Rattle.std.specs.Prelude.{◌≡◌, ℕ, ◌+◌, ◌*◌, ◌<◌, ℤ, pos, ◌+ℤ◌, List, length, slice_index_or}
 
 -- the sum of a year's four quarters, the years numbered from 0
 abbrev pub year_total : List ℤ → ℕ → ℤ

@@ -1,5 +1,5 @@
 -- What a certificate's verdict says, over the document's own numbers.
-use Rattle.std.specs.Prelude.{◌≡◌, ◌≢◌, ◌↔◌, ℕ, ◌+◌, ◌^◌, ℤ, pos, List}
+use Rattle.std.specs.Prelude.{◌≡◌, ℕ, ◌+◌, ◌^◌, ℤ, pos}
 use Rattle.denton_parts.specs.Benchmarks.{MeetsBenchmarks}
 use Rattle.denton_parts.specs.Ratios.{IsWithinGap}
 use Rattle.denton_parts.specs.Changes.{changes}

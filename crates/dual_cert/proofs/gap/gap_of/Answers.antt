@@ -1,4 +1,4 @@
-use Rattle.std.proofs.Common.{rules, arith, ◌≡◌, ◌≤◌, ◌<◌, ◌+◌, ◌*◌, ◌^◌, ◌∷◌, ◌++◌, [], ◌-◌, ℤ, pos, ◌+ℤ◌, ◌≤ℤ◌, length, FitsSigned, get_or, sym, ◌∙◌, ap, unsigned_abs, to_z, of_z}
+use Rattle.std.proofs.Common.{arith, ◌≡◌, ◌+◌, ◌∷◌, ◌++◌, [], ◌-◌, pos, ◌+ℤ◌, ◌≤ℤ◌, FitsSigned, get_or, unsigned_abs, to_z, of_z}
 use Rattle.std.specs.Int.{w128}
 use Rattle.std.proofs.lemmas.Int.{to_z-of_z}
 use Rattle.ratio_arith.proofs.Linear.{linear}

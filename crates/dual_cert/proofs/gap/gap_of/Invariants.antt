@@ -1,7 +1,6 @@
-use Rattle.std.proofs.Common.{◌≡◌, ℕ, ◌-◌, ◌*◌, ◌^◌, ◌≤◌, ℤ, pos, ◌+ℤ◌, ◌*ℤ◌, ◌≤ℤ◌, drop, get_or}
+use Rattle.std.proofs.Common.{◌≡◌, ◌-◌, ◌*◌, ◌^◌, pos, ◌+ℤ◌, ◌*ℤ◌, ◌≤ℤ◌, drop, get_or}
 use Rattle.denton_parts.specs.Changes.{changes}
 use Rattle.denton_parts.specs.Gap.{gap_from, gap_by}
-use Rattle.denton_parts.specs.declared.quotient.Quotient.{Quotient}
 use Rattle.dual_cert.specs.Parts.{AreBoundsOf, AreWithin}
 use Rattle.dual_cert.proofs.gap.gap_of.Given as goal
 

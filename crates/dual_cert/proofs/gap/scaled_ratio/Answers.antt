@@ -1,7 +1,6 @@
-use Rattle.std.proofs.Common.{arith, ◌≡◌, ◌^◌, ◌≤◌, ◌*◌, pos, ◌*ℤ◌, FitsSigned, unsigned_abs}
+use Rattle.std.proofs.Common.{arith, ◌*ℤ◌, FitsSigned}
 use Rattle.std.specs.Int.{w128}
 use Rattle.std.proofs.lemmas.Int.{to_z-of_z, unsigned_abs-mul, fits_signed_from_abs}
-use Rattle.ratio_arith.specs.Division.{floor_of, ceil_of}
 use Rattle.dual_cert.proofs.Sizes.{ratio_size}
 use Rattle.dual_cert.proofs.gap.scaled_ratio.Goals as goal
 
