@@ -6,3 +6,4 @@ pub mod Sizes
 pub mod Parts
 pub mod Steps
 pub mod Totals
+pub mod Examples

@@ -21,3 +21,6 @@ pub use verdict::{Verdict, check};
 pub fn weak_duality()
     ensures { GapBoundsAll }
 {}
+
+#[cfg(test)]
+mod tests;
