@@ -192,7 +192,6 @@ fn push_item(
 }
 
 /// The values of an item, compiled from its cells.
-
 fn item_values(alloc: Global, tables: &Tables, item: u16) -> Result<Vec<Option<i128>>, Memory>
     requires { item < tables.now.leaves }
     ensures values { IfOk result (λ values. values.items ≡ leaf_values (cell tables.now) item) }
@@ -214,7 +213,6 @@ fn push_items(text: &mut Vec<u8>, alloc: Global, plan: &Plan, tables: &Tables) -
 }
 
 /// The text of the release of all inputs that the tables were given: its number is theirs.
-
 pub fn release(alloc: Global, plan: &Plan, tables: &Tables, inputs: u64) -> Result<Vec<u8>, Memory>
     requires { tables.now.leaves ≡ length plan.now.names }
     ensures { IfOk result (λ text. (given : List InputOf) → length given ≡ inputs → ((kind : KindOf) (leaf period : ℕ) → cell tables.now kind leaf period ≡ last_value given kind leaf period) → text.items ≡ release_text plan.now given) }

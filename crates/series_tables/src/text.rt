@@ -31,7 +31,6 @@ fn find_byte(bytes: &[u8], wanted: u8) -> Option<usize>
 }
 
 /// Cuts the first line off a text that isn't empty.
-
 pub fn split_line(text: &[u8]) -> LineCut<'_>
     requires { 0 < length text.now }
     ensures lines { lines_of text.now ≡ record { body = result.body.now; ended = result.ended } ∷ lines_of result.rest.now }
@@ -52,7 +51,6 @@ pub fn split_line(text: &[u8]) -> LineCut<'_>
 }
 
 /// Cuts the first field off a line.
-
 pub fn split_field(line: &[u8]) -> FieldCut<'_>
     ensures { MatchOption result.rest (fields_of line.now ≡ result.field.now ∷ []) (λ rest. fields_of line.now ≡ result.field.now ∷ fields_of rest.now) }
 {
