@@ -84,3 +84,30 @@ fn product(a: i128, b: i128) -> i128
 {
     a * b
 }
+
+#[cfg(test)]
+mod tests {
+    use super::*;
+
+    // Left and right multipliers, the quarter, and the change's floor and ceiling, for a year with the indicators 1, 2, 3 and 4.
+    #[test]
+    fn changes_are_weighed(rt: HostRuntime) {
+        let part = YearPart::of([1, 2, 3, 4], 7);
+        assert_eq!(rt; part.before, [0, 1, 3, 6]);
+        assert_eq!(rt; part.sum, 10);
+        assert_eq!(rt; part.bench, 7);
+        assert_eq!(rt; change_floor(&part, 15, -4, 0), 15);
+        assert_eq!(rt; change_ceil(&part, 15, -4, 0), 15);
+        assert_eq!(rt; change_floor(&part, 15, -4, 1), 13);
+        assert_eq!(rt; change_ceil(&part, 15, -4, 1), 14);
+        assert_eq!(rt; change_floor(&part, -15, 4, 3), -4);
+        assert_eq!(rt; change_ceil(&part, -15, 4, 3), -3);
+        assert_eq!(rt;
+            change_bounds(&part, -15, 4, 3),
+            Quotient {
+                floor: -4,
+                ceiling: -3
+            }
+        );
+    }
+}

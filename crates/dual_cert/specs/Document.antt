@@ -1,0 +1,43 @@
+-- What a certificate's document keeps: the shape of its lists and the ranges of its numbers (this product's own).
+use Rattle.std.specs.Prelude.{◌≡◌, ℕ, ◌+◌, ◌*◌, ◌/◌, ◌^◌, ◌≤◌, ℤ, pos, ◌≤ℤ◌, Bool, ◌&&◌, ◌||◌, ◌==◌, nat_le, IsTrue, List, length, slice_index, slice_index_or, unsigned_abs, EachIndex}
+use Rattle.std.specs.List.{list_all}
+use Rattle.denton_parts.specs.Year.{IsIndicator, IsBenchmark, IsMultiplier}
+
+-- a letter, a digit, `_`, `.` or `-`
+abbrev pub is_name_byte : ℕ → Bool
+is_name_byte byte = (nat_le 48 byte && nat_le byte 57) || (nat_le 65 byte && nat_le byte 90) || (nat_le 97 byte && nat_le byte 122) || byte == 95 || byte == 46 || byte == 45
+
+-- a name: 1 to 32 such bytes
+abbrev pub is_name : List ℕ → Bool
+is_name name = nat_le 1 (length name) && nat_le (length name) 32 && list_all is_name_byte name
+
+-- a quarter's value is within 10^16 times its indicator, at the scale 10^k
+abbrev pub IsQuarterValue : ℕ → ℕ → ℤ → Type 0
+IsQuarterValue k indicator value = unsigned_abs value ≤ 10 ^ 16 * indicator / 10 ^ k
+
+-- the quarters of a certificate: at most 256, a value for each indicator, all in range at the scale 10^k
+pub record AreQuarters (k : ℕ) (indicators : List ℕ) (values : List ℤ) : Type 0 where
+  pub scale_in_range : k ≤ 15
+  pub most : length indicators ≤ 256
+  pub same_length : length values ≡ length indicators
+  pub each_indicator : EachIndex indicators (λ t. IsIndicator (slice_index indicators t))
+  pub each_value : EachIndex indicators (λ t. IsQuarterValue k (slice_index indicators t) (slice_index_or values t (pos 0)))
+
+-- each multiplier is in range
+abbrev pub AreMultipliers : List ℤ → Type 0
+AreMultipliers multipliers = EachIndex multipliers (λ y. IsMultiplier (slice_index_or multipliers y (pos 0)))
+
+-- a document: a leaf's name, a front, a scale and a start year in range, at least one benchmarked year with its four quarters, and a multiplier between each two years
+pub record IsDocument (name : List ℕ) (front k start : ℕ) (indicators : List ℕ) (benchmarks values multipliers : List ℤ) (gap : ℤ) : Type 0 where
+  pub named : IsTrue (is_name name)
+  pub front_in_range : front ≤ 262144
+  pub first_start : 1900 ≤ start
+  pub last_start : start ≤ 2200
+  pub quarters : AreQuarters k indicators values
+  pub some_year : 1 ≤ length benchmarks
+  pub whole_years : 4 * length benchmarks ≤ length indicators
+  pub joints : length multipliers + 1 ≡ length benchmarks
+  pub each_benchmark : EachIndex benchmarks (λ y. IsBenchmark (slice_index_or benchmarks y (pos 0)))
+  pub each_multiplier : AreMultipliers multipliers
+  pub least_gap : pos 0 ≤ℤ gap
+  pub most_gap : gap ≤ℤ pos (10 ^ 36)

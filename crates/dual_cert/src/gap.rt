@@ -1,0 +1,119 @@
+//! The gap of a series, in one pass over its quarters.
+
+ghost use Rattle.std.specs.Prelude.{◌≡◌, ◌≤◌, ◌<◌, ◌+◌, ◌*◌, ◌^◌, max, length, pos, [], ◌∷◌, ◌++◌, ◌-ℤ◌, ◌*ℤ◌, ◌≤ℤ◌, ◌<ℤ◌, unsigned_abs, slice_index, slice_index_or};
+ghost use Rattle.denton_parts.specs.Changes.{changes};
+ghost use Rattle.denton_parts.specs.Gap.{gap_by};
+ghost use Rattle.denton_parts.specs.Year.{IsIndicator, IsMultiplier};
+ghost use Rattle.dual_cert.specs.Document.{AreQuarters, AreMultipliers};
+ghost use Rattle.dual_cert.specs.Parts.{BeginsWithYears, year_change, AreBoundsOf, AreWithin};
+
+use crate::distance::{greater_square, less_both};
+use denton_parts::{Quotient, YearPart, change_bounds, quotient_of};
+
+/// The gap of the values `x` with the indicators `ind`, in units of 1 over 10^(2 * scale): the sum of the squared distances of the ratio changes
+/// from those that the multipliers `u` give, rounded outwards. `parts` are the benchmarked years, with which `ind` begins.
+pub fn gap_of(parts: &[YearPart], scale: u8, u: &[i128], ind: &[u32], x: &[i128]) -> i128
+    requires some_year { 1 ≤ length parts.now }
+    requires joints { length u.now + 1 ≡ length parts.now }
+    requires years { BeginsWithYears parts.now ind.now }
+    requires quarters { AreQuarters scale ind.now x.now }
+    requires multipliers { AreMultipliers u.now }
+    ensures value { result ≡ gap_by (pos (10 ^ scale)) ind.now x.now (changes u.now ind.now) }
+    ensures least { pos 0 ≤ℤ result }
+    ensures most { result <ℤ pos (10 ^ 36) }
+{
+    let unit = power_of_ten(scale);
+    let mut before = ratio_at(unit, ind, x, 0);
+    let mut gap = 0;
+    for t in 1..ind.len() {
+        let now = ratio_at(unit, ind, x, t);
+        gap += squared_distance(before, now, change_at(parts, u, t));
+        before = now;
+    }
+    gap
+}
+
+// 10 to a small power.
+fn power_of_ten(power: u8) -> i128
+    requires { power ≤ 15 }
+    ensures value { result ≡ pos (10 ^ power) }
+{
+    i128::from(10_u64.pow(u32::from(power)))
+}
+
+// The whole numbers next to the ratio of the value of quarter t to its indicator, in units of 1 over the unit.
+fn ratio_at(unit: i128, ind: &[u32], x: &[i128], t: usize) -> Quotient
+    requires inside { t < length ind.now }
+    requires lengths { length x.now ≡ length ind.now }
+    requires indicator { IsIndicator (slice_index ind.now t) }
+    requires reach { unsigned_abs unit * unsigned_abs (slice_index_or x.now t (pos 0)) ≤ 10 ^ 16 * slice_index ind.now t }
+    ensures bounds { AreBoundsOf (unit *ℤ slice_index_or x.now t (pos 0)) (pos (slice_index ind.now t)) result }
+    ensures size { AreWithin (10 ^ 16) result }
+{
+    scaled_ratio(unit, ind[t], x[t])
+}
+
+// The whole numbers next to a value's ratio to its indicator, in units of 1 over the unit.
+fn scaled_ratio(unit: i128, indicator: u32, value: i128) -> Quotient
+    requires indicator { IsIndicator indicator }
+    requires reach { unsigned_abs unit * unsigned_abs value ≤ 10 ^ 16 * indicator }
+    ensures bounds { AreBoundsOf (unit *ℤ value) (pos indicator) result }
+    ensures size { AreWithin (10 ^ 16) result }
+{
+    quotient_of(unit * value, i128::from(indicator))
+}
+
+// The square of a bound on the distance of a ratio change from the given one.
+fn squared_distance(before: Quotient, now: Quotient, change: Quotient) -> i128
+    requires before { AreWithin (10 ^ 16) before }
+    requires now { AreWithin (10 ^ 16) now }
+    requires change { AreWithin (10 ^ 15) change }
+    ensures value { let low = now.floor -ℤ before.ceiling -ℤ change.ceiling in let high = now.ceiling -ℤ before.floor -ℤ change.floor in let distance = max (unsigned_abs low) (unsigned_abs high) in result ≡ pos (distance * distance) }
+    ensures size { result ≤ℤ pos (10 ^ 33) }
+{
+    let low = less_both(now.floor, before.ceiling, change.ceiling);
+    let high = less_both(now.ceiling, before.floor, change.floor);
+    greater_square(low, high)
+}
+
+// The change that the multipliers give for a quarter: none past the last benchmarked year.
+fn change_at(parts: &[YearPart], u: &[i128], t: usize) -> Quotient
+    requires joints { length u.now + 1 ≡ length parts.now }
+    requires multipliers { AreMultipliers u.now }
+    ensures bounds { let change = year_change parts.now u.now t in AreBoundsOf change.numerator change.denominator result }
+    ensures size { AreWithin (10 ^ 15) result }
+{
+    let year = t / 4;
+    if year < parts.len() {
+        change_bounds(
+            &parts[year],
+            multiplier_before(u, year),
+            multiplier_after(u, year),
+            t % 4,
+        )
+    } else {
+        Quotient {
+            floor: 0,
+            ceiling: 0,
+        }
+    }
+}
+
+// The multiplier before a year: none before the first.
+fn multiplier_before(u: &[i128], year: usize) -> i128
+    requires year { year ≤ length u.now }
+    requires multipliers { AreMultipliers u.now }
+    ensures value { result ≡ slice_index_or (pos 0 ∷ u.now) year (pos 0) }
+    ensures size { IsMultiplier result }
+{
+    if year == 0 { 0 } else { u[year - 1] }
+}
+
+// The multiplier after a year: none after the last.
+fn multiplier_after(u: &[i128], year: usize) -> i128
+    requires multipliers { AreMultipliers u.now }
+    ensures value { result ≡ slice_index_or (u.now ++ pos 0 ∷ []) year (pos 0) }
+    ensures size { IsMultiplier result }
+{
+    if year < u.len() { u[year] } else { 0 }
+}
