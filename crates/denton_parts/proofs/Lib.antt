@@ -1,3 +1,4 @@
 pub mod Machine
+pub mod Scales
 pub mod Sizes
 pub mod Worked
