@@ -1,3 +1,4 @@
+pub mod EndRatios
 pub mod Machine
 pub mod Scales
 pub mod Sizes

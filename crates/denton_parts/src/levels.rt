@@ -4,6 +4,10 @@ ghost use Rattle.std.specs.Prelude.{◌≡◌, ◌≤◌, ◌<◌, ◌+◌, ◌*
 ghost use Rattle.denton_parts.specs.Level.{level_of, rises, weighed_rises};
 ghost use Rattle.denton_parts.specs.Year.{IsIndicator, IsMultiplier, year_sum};
 
+mod ends;
+
+pub use ends::{Ends, ends_of};
+
 use crate::change_floor;
 use crate::year::YearPart;
 
