@@ -1,3 +1,5 @@
+pub mod EndRatios
 pub mod Machine
+pub mod Scales
 pub mod Sizes
 pub mod Worked

@@ -2,7 +2,9 @@
 //! (IMF Quarterly National Accounts Manual 2017, chapter 6).
 #![tactic(auto)]
 
+mod levels;
 mod quotient;
+mod scale;
 mod year;
 
 ghost use Rattle.std.specs.Prelude.{◌≡◌, ◌≤◌, ◌<◌, ◌*◌, ◌^◌, ℤ, pos, neg_ℤ, ◌+ℤ◌, ◌-ℤ◌, ◌*ℤ◌, ◌≤ℤ◌, unsigned_abs};
@@ -10,8 +12,10 @@ ghost use Rattle.ratio_arith.specs.Division.{floor_of, ceil_of};
 ghost use Rattle.denton_parts.specs.Changes.{Fraction};
 ghost use Rattle.denton_parts.specs.Year.{IsMultiplier, year_sum, change_in_year};
 
+pub use levels::{Ends, ends_of, level};
 pub use quotient::{Quotient, quotient_of};
 use ratio_arith::{ceil_div, floor_div};
+pub use scale::scale_of;
 pub use year::YearPart;
 
 /// The floor of the ratio change into quarter `j` of the year, from 0 to 3, between the multipliers `left` before and `right` after the year.
@@ -109,5 +113,23 @@ mod tests {
                 ceiling: -3
             }
         );
+    }
+
+    // Indicators, a benchmark, and the scale: a usual ratio, none, and the largest.
+    #[test]
+    fn scales_follow_the_annual_ratio(rt: HostRuntime) {
+        assert_eq!(rt;
+            scale_of(&[YearPart::of([100; 4], 1000), YearPart::of([100; 4], 1400)]),
+            12
+        );
+        assert_eq!(rt; scale_of(&[YearPart::of([100; 4], 0)]), 15);
+        assert_eq!(rt; scale_of(&[YearPart::of([1; 4], 1000000000000)]), 1);
+    }
+
+    #[test]
+    fn levels_rise_with_the_changes(rt: HostRuntime) {
+        let part = YearPart::of([100; 4], 1000);
+        assert_eq!(rt; level(&part, 12, 0, 363636363636, 0), 909090909091000);
+        assert_eq!(rt; level(&part, 12, 0, 363636363636, 3), 1127272727272600);
     }
 }

@@ -1,0 +1,20 @@
+-- The scaled levels of a year's ratio (this product's own form of the proportional solution of chapter 6).
+use Rattle.std.specs.Prelude.{ℕ, ◌^◌, ℤ, pos, ◌+ℤ◌, ◌-ℤ◌, ◌*ℤ◌, List, [], ◌∷◌, slice_index, slice_index_or}
+use Rattle.ratio_arith.specs.Division.{floor_of}
+use Rattle.denton_parts.specs.Year.{year_sum, change_in_year}
+
+-- the floor of the change into a quarter of the year
+abbrev pub floored_change : List ℕ → ℤ → ℤ → ℕ → ℤ
+floored_change indicators left right quarter = floor_of (change_in_year indicators left right quarter).numerator (change_in_year indicators left right quarter).denominator
+
+-- for each of the four quarters, how far its ratio stands above that of the year's first: the sum of the floored changes up to it
+abbrev pub rises : List ℕ → ℤ → ℤ → List ℤ
+rises indicators left right = pos 0 ∷ floored_change indicators left right 1 ∷ (floored_change indicators left right 1 +ℤ floored_change indicators left right 2) ∷ (floored_change indicators left right 1 +ℤ floored_change indicators left right 2 +ℤ floored_change indicators left right 3) ∷ []
+
+-- the rises weighed by the indicators
+abbrev pub weighed_rises : List ℕ → ℤ → ℤ → ℤ
+weighed_rises indicators left right = pos (slice_index indicators 1) *ℤ slice_index_or (rises indicators left right) 1 (pos 0) +ℤ pos (slice_index indicators 2) *ℤ slice_index_or (rises indicators left right) 2 (pos 0) +ℤ pos (slice_index indicators 3) *ℤ slice_index_or (rises indicators left right) 3 (pos 0)
+
+-- a quarter's level: its ratio times the scale and the year's indicator sum. The indicators times their levels add up to the scale, the sum and the benchmark
+abbrev pub level_of : List ℕ → ℤ → ℕ → ℤ → ℤ → ℕ → ℤ
+level_of indicators benchmark k left right quarter = pos (10 ^ k) *ℤ benchmark -ℤ weighed_rises indicators left right +ℤ pos (year_sum indicators) *ℤ slice_index_or (rises indicators left right) quarter (pos 0)
