@@ -6,10 +6,9 @@ ghost use Rattle.denton_parts.specs.Year.{IsIndicator, IsMultiplier, year_sum};
 
 mod ends;
 
-pub use ends::{Ends, ends_of};
-
 use crate::change_floor;
 use crate::year::YearPart;
+pub use ends::{Ends, ends_of};
 
 /// The level of quarter `j` of the year, from 0 to 3, between the multipliers `left` before and `right` after the year: the quarter's benchmark-to-indicator
 /// ratio, times 10^scale and the year's indicator sum. The four indicators times their levels add up to 10^scale times the sum and the benchmark.
