@@ -9,7 +9,7 @@ use Rattle.price_base.specs.declared.Cell.TheVariants.{Missing, Value, NoBase, N
 use Rattle.price_base.specs.Cells.{is_missing, is_no_base, is_range, total, combined}
 
 -- the number in a cell; a mark adds nothing
-abbrev amount_of : Cell → ℤ
+abbrev pub amount_of : Cell → ℤ
 amount_of (Value value) = value
 amount_of Missing = pos 0
 amount_of NoBase = pos 0

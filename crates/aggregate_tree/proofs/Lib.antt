@@ -3,3 +3,4 @@ pub mod Adding
 pub mod Counts
 pub mod Places
 pub mod Kept
+pub mod Sizes

@@ -1,16 +1,19 @@
 -- Tallies with one more list, place by place.
-use Rattle.std.proofs.Common.{◌≡◌, ◌∙◌, ap, sym, refl, subst, inl, inr, ℕ, ◌+◌, ◌<◌, ◌≤◌, Bool, true, false, if◌then◌else◌, List, [], ◌∷◌, map, length, get_or, set, arith}
+use Rattle.std.proofs.Common.{◌≡◌, ◌∙◌, ap, sym, refl, subst, inl, inr, ℕ, zero, suc, ◌+◌, ◌<◌, ◌≤◌, Bool, true, false, if◌then◌else◌, List, [], ◌∷◌, map, length, get_or, take, drop, ◌++◌, ℤ, unsigned_abs, ◌^◌, ◌*◌, arith}
 use Rattle.std.specs.Prelude.{slice_get, Option, Some, None}
-use Rattle.std.specs.List.{range_with_len}
+use Rattle.std.specs.List.{range_with_len, prefix_len, take_while}
+use Rattle.std.proofs.Math.Seq.{take-length}
+use Rattle.std.proofs.Math.ListN.{drop_of_length-le}
+use Rattle.std.proofs.lemmas.List.Sums.{prefix_len_is}
 use Rattle.std.proofs.lemmas.Bool.{cases_lt}
-use Rattle.std.proofs.lemmas.List.{get_or_past, get_or-set_same, get_or-set_other}
+use Rattle.std.proofs.lemmas.List.{get_or_past, get_or-map, append-nil}
 use Rattle.std.proofs.lemmas.List.FromFn.{fill_by_all, length-map-range_with_len, get_or-map-range_with_len}
 use Rattle.std.proofs.lemmas.Option.{slice_get-get_or, slice_get_past}
 use Rattle.price_base.specs.declared.Cell.{Cell}
 use Rattle.price_base.specs.declared.Cell.TheVariants.{Missing, Value, NoBase, NoLink, Range}
 use Rattle.aggregate_tree.specs.declared.tally.Tally.{Tally}
 use Rattle.aggregate_tree.specs.Leaves.{longest}
-use Rattle.aggregate_tree.specs.Tallies.{no_tally, tally_of, tally_at, IsSumOf, with_cell, with_cells, AreCounts}
+use Rattle.aggregate_tree.specs.Tallies.{no_tally, tally_of, tally_at, IsSumOf, with_cell, with_cells, AreCounts, AreValueSums, AreVolumeSums, cell_of, is_reached}
 use Rattle.aggregate_tree.proofs.Counts.{with_cell-tally_of}
 
 pub length-with_cells : (cells : List Cell) (tallies : List Tally) → length (with_cells cells tallies) ≡ length tallies
@@ -88,3 +91,39 @@ same_present_more xs ys value prev same as_long present t = elim (cases_lt t (le
   | inr past ↦ ap (λ (tally : Tally). tally.present) (get_or_past (with_cells xs value) t no_tally (omega (arith, length-with_cells xs value)))
       ∙ sym (ap (λ (tally : Tally). tally.present) (get_or_past (with_cells ys prev) t no_tally (omega (arith, length-with_cells ys prev))))
 ]
+
+sum_at : (cells : List Cell) (tallies : List Tally) (t : ℕ) → t < length tallies → (tally_at (with_cells cells tallies) t).sum ≡ (with_cell (slice_get cells t) (tally_at tallies t)).sum
+sum_at cells tallies t below = ap (λ (tally : Tally). tally.sum) (tally_at-with_cells cells tallies t below)
+
+-- sums in their range are far from where the code's numbers end
+pub value_sums_fit : (cells : List Cell) (tallies : List Tally) → AreValueSums (with_cells cells tallies) → (t : ℕ) → t < length tallies → unsigned_abs (with_cell (slice_get cells t) (tally_at tallies t)).sum ≤ 10 ^ 27
+value_sums_fit cells tallies sums t below =
+    let small : unsigned_abs (with_cell (slice_get cells t) (tally_at tallies t)).sum < 10 ^ 27 = subst (λ (z : ℤ). unsigned_abs z < 10 ^ 27) (sum_at cells tallies t below) (sums t) in omega arith
+
+pub volume_sums_fit : (cells : List Cell) (tallies : List Tally) → AreVolumeSums (with_cells cells tallies) → (t : ℕ) → t < length tallies → unsigned_abs (with_cell (slice_get cells t) (tally_at tallies t)).sum ≤ 10 ^ 27
+volume_sums_fit cells tallies sums t below =
+    let small : unsigned_abs (with_cell (slice_get cells t) (tally_at tallies t)).sum ≤ 512 * 10 ^ 15 = subst (λ (z : ℤ). unsigned_abs z ≤ 512 * 10 ^ 15) (sum_at cells tallies t below) (sums t) in omega arith
+
+-- what a vector holds after all of it was written
+pub written_back : (n : ℕ) (items changed whole : List Tally) → n ≡ length items → changed ≡ whole → length whole ≡ length items → take n (changed ++ drop (length changed) items) ≡ whole
+written_back n items changed whole len is same =
+    subst (λ (list : List Tally). take n (list ++ drop (length list) items) ≡ whole) (sym is)
+    (ap (λ rest. take n (whole ++ rest)) (drop_of_length-le items (omega arith)) ∙ ap (λ list. take n list) (append-nil whole) ∙ ap (λ k. take k whole) (len ∙ sym same) ∙ take-length whole)
+
+-- where each quarter is reached, all are
+pub all_reached : (tallies : List Tally) → ((k : ℕ) → k < length tallies → is_reached (get_or tallies k no_tally) ≡ true) → tallies ≡ take_while is_reached tallies
+all_reached tallies reached =
+    let all : prefix_len is_reached tallies ≡ length tallies = prefix_len_is is_reached tallies (length tallies) no_tally (omega arith) reached (λ below. absurd (omega arith)) in
+    sym (ap (λ n. take n tallies) all ∙ take-length tallies)
+
+-- two lists of tallies have the same cells where each quarter has
+pub same_cells : (xs ys : List Tally) → length xs ≡ length ys → ((k : ℕ) → k < length xs → cell_of (get_or xs k no_tally) ≡ cell_of (get_or ys k no_tally)) → map cell_of xs ≡ map cell_of ys
+same_cells [] [] same each = refl
+same_cells [] (y ∷ ys) same each = absurd (omega arith)
+same_cells (x ∷ xs) [] same each = absurd (omega arith)
+same_cells (x ∷ xs) (y ∷ ys) same each =
+    ap (λ cell. cell ∷ map cell_of xs) (each zero (omega arith)) ∙ ap (λ cells. cell_of y ∷ cells) (same_cells xs ys (omega arith) (λ k below. each (suc k) (omega arith)))
+
+pub same_cell : (xs ys : List Tally) (k : ℕ) → k < length xs → k < length ys → map cell_of xs ≡ map cell_of ys → cell_of (get_or xs k no_tally) ≡ cell_of (get_or ys k no_tally)
+same_cell xs ys k here there same =
+    sym (get_or-map cell_of xs k no_tally Missing here) ∙ ap (λ cells. get_or cells k Missing) same ∙ get_or-map cell_of ys k no_tally Missing there

@@ -124,6 +124,13 @@ pub fn cells(alloc: Global, tallies: &[Tally]) -> Result<Vec<Cell>, Memory>
     )
 }
 
+/// Whether two cells are the same.
+fn is_same_cell(one: Cell, other: Cell) -> bool
+    ensures same { IsTrue result ↔ (one ≡ other) }
+{
+    one == other
+}
+
 /// Whether two lists of tallies have the same cells.
 pub fn have_same_cells(one: &[Tally], other: &[Tally]) -> bool
     ensures same { IsTrue result ↔ (cells_of one.now ≡ cells_of other.now) }
@@ -134,7 +141,7 @@ pub fn have_same_cells(one: &[Tally], other: &[Tally]) -> bool
         return false;
     }
     for quarter in 0..one.len() {
-        if one[quarter].cell() != other[quarter].cell() {
+        if !is_same_cell(one[quarter].cell(), other[quarter].cell()) {
             return false;
         }
     }
