@@ -1,6 +1,6 @@
 -- A tally says what the cells of its quarter come to.
-use Rattle.std.proofs.Common.{◌≡◌, ◌∙◌, ap, sym, refl, inl, inr, ℕ, zero, suc, ◌+◌, ◌-◌, ◌<◌, ◌≤◌, max, nat_lt, ℤ, Bool, true, false, if◌then◌else◌, List, [], ◌∷◌, map, length, get_or, take, arith}
-use Rattle.std.specs.Prelude.{◌||◌, slice_get, Option, Some, None}
+use Rattle.std.proofs.Common.{◌≡◌, ◌∙◌, ap, sym, refl, inl, inr, ℕ, zero, suc, ◌+◌, ◌-◌, ◌≤◌, max, nat_lt, Bool, true, false, if◌then◌else◌, List, [], ◌∷◌, map, length, get_or, take, arith}
+use Rattle.std.specs.Prelude.{◌||◌, slice_get, Some}
 use Rattle.std.specs.List.{list_any, range_with_len, prefix_len}
 use Rattle.std.proofs.lemmas.Bool.{cases_lt, lt-ltb, le-ltb}
 use Rattle.std.proofs.lemmas.Bool.Decides.{nat_tests}
@@ -9,10 +9,10 @@ use Rattle.std.proofs.lemmas.List.FromFn.{fill_by_all}
 use Rattle.std.proofs.lemmas.Option.{slice_get-get_or, slice_get_past}
 use Rattle.price_base.specs.declared.Cell.{Cell}
 use Rattle.price_base.specs.declared.Cell.TheVariants.{Missing, Value, NoBase, NoLink, Range}
-use Rattle.price_base.specs.Cells.{cell_at, is_missing, is_no_base, is_range, total, combined}
+use Rattle.price_base.specs.Cells.{is_missing, is_no_base, is_range, total, combined}
 use Rattle.aggregate_tree.specs.declared.tally.Tally.{Tally}
 use Rattle.aggregate_tree.specs.Leaves.{cells_at, longest, added}
-use Rattle.aggregate_tree.specs.Tallies.{count_of, no_tally, tally_of, tally_at, IsSumOf, cell_of, is_reached, cells_of, with_cell}
+use Rattle.aggregate_tree.specs.Tallies.{count_of, no_tally, tally_of, IsSumOf, cell_of, is_reached, cells_of, with_cell}
 
 counted_more : (here : Bool) (n : ℕ) (later : Bool) → nat_lt 0 n ≡ later → nat_lt 0 (if here then 1 + n else n) ≡ (here || later)
 counted_more true n later e = lt-ltb 0 (1 + n) (omega arith)

@@ -1,10 +1,10 @@
 -- What holds of each sum, and of its cells.
-use Rattle.std.proofs.Common.{◌≡◌, ◌∙◌, ap, sym, refl, subst, ℕ, zero, suc, ◌+◌, ◌<◌, ◌≤◌, nat_lt, ℤ, Bool, true, false, if◌then◌else◌, List, [], ◌∷◌, map, length, get_or, take, arith}
+use Rattle.std.proofs.Common.{◌≡◌, ◌∙◌, ap, sym, refl, subst, ℕ, zero, suc, ◌+◌, ◌<◌, nat_lt, ℤ, Bool, true, false, if◌then◌else◌, List, [], ◌∷◌, length, get_or, arith}
 use Rattle.std.specs.List.{All, prefix_len, take_while}
 use Rattle.std.proofs.lemmas.List.{get_or_default}
 use Rattle.std.proofs.lemmas.List.Elements.{All-map, All-take}
 use Rattle.price_base.specs.declared.Cell.{Cell}
-use Rattle.price_base.specs.declared.Cell.TheVariants.{Missing, Value, NoBase, NoLink, Range}
+use Rattle.price_base.specs.declared.Cell.TheVariants.{Missing, Value, NoBase, Range}
 use Rattle.price_base.specs.Cells.{IsFlow}
 use Rattle.aggregate_tree.specs.declared.tally.Tally.{Tally}
 use Rattle.aggregate_tree.specs.Tallies.{no_tally, tally_at, cell_of, is_reached, cells_of, with_cells, IsValueSum, IsVolumeSum, AreValueSums, AreVolumeSums, IsValueInRange, IsVolumeInRange}

@@ -1,7 +1,7 @@
 -- Tallies with one more list, place by place.
 use Rattle.std.proofs.Common.{◌≡◌, ◌∙◌, ap, sym, refl, subst, inl, inr, ℕ, zero, suc, ◌+◌, ◌<◌, ◌≤◌, Bool, true, false, if◌then◌else◌, List, [], ◌∷◌, map, length, get_or, take, drop, ◌++◌, ℤ, unsigned_abs, ◌^◌, ◌*◌, arith}
 use Rattle.std.specs.Prelude.{slice_get, Option, Some, None}
-use Rattle.std.specs.List.{range_with_len, prefix_len, take_while}
+use Rattle.std.specs.List.{prefix_len, take_while}
 use Rattle.std.proofs.Math.Seq.{take-length}
 use Rattle.std.proofs.Math.ListN.{drop_of_length-le}
 use Rattle.std.proofs.lemmas.List.Sums.{prefix_len_is}
@@ -13,7 +13,7 @@ use Rattle.price_base.specs.declared.Cell.{Cell}
 use Rattle.price_base.specs.declared.Cell.TheVariants.{Missing, Value, NoBase, NoLink, Range}
 use Rattle.aggregate_tree.specs.declared.tally.Tally.{Tally}
 use Rattle.aggregate_tree.specs.Leaves.{longest}
-use Rattle.aggregate_tree.specs.Tallies.{no_tally, tally_of, tally_at, IsSumOf, with_cell, with_cells, AreCounts, AreValueSums, AreVolumeSums, cell_of, is_reached}
+use Rattle.aggregate_tree.specs.Tallies.{no_tally, tally_at, IsSumOf, with_cell, with_cells, AreCounts, AreValueSums, AreVolumeSums, cell_of, is_reached}
 use Rattle.aggregate_tree.proofs.Counts.{with_cell-tally_of}
 
 pub length-with_cells : (cells : List Cell) (tallies : List Tally) → length (with_cells cells tallies) ≡ length tallies

@@ -1,5 +1,5 @@
 -- How far a sum grows with one more child: for callers that know how large each child's numbers are.
-use Rattle.std.proofs.Common.{◌≡◌, ◌∙◌, ap, sym, refl, subst, inl, inr, ℕ, zero, suc, ◌+◌, ◌<◌, ◌≤◌, ◌^◌, ◌*◌, ℤ, pos, ◌+ℤ◌, unsigned_abs, nat_le, Bool, true, false, List, [], ◌∷◌, length, get_or, arith}
+use Rattle.std.proofs.Common.{◌≡◌, ◌∙◌, ap, sym, refl, subst, inl, inr, ℕ, ◌+◌, ◌<◌, ◌≤◌, ◌^◌, ◌*◌, ℤ, ◌+ℤ◌, unsigned_abs, true, List, length, get_or, arith}
 use Rattle.std.specs.Prelude.{slice_get, Option, Some, None, unwrap_or}
 use Rattle.std.proofs.Math.IntN.{+ℤ_idl}
 use Rattle.std.proofs.lemmas.Int.{ints}
@@ -12,7 +12,7 @@ use Rattle.price_base.specs.declared.Cell.{Cell}
 use Rattle.price_base.specs.declared.Cell.TheVariants.{Missing, Value, NoBase, NoLink, Range}
 use Rattle.price_base.specs.Cells.{cell_at, IsFlow}
 use Rattle.aggregate_tree.specs.declared.tally.Tally.{Tally}
-use Rattle.aggregate_tree.specs.Tallies.{no_tally, tally_at, with_cell, with_cells}
+use Rattle.aggregate_tree.specs.Tallies.{no_tally, tally_at, with_cell, with_cells, AreValueSums, AreVolumeSums}
 use Rattle.aggregate_tree.specs.Small.{is_small_cell}
 use Rattle.aggregate_tree.proofs.Combining.{amount_of}
 use Rattle.aggregate_tree.proofs.Places.{length-with_cells, tally_at-with_cells}
@@ -61,3 +61,17 @@ small_flow Range small e = cc
 
 pub small_flows : (cells : List Cell) → list_all is_small_cell cells ≡ true → All IsFlow cells
 small_flows cells small k d below = small_flow (get_or cells k d) (AllPass-from_list_all is_small_cell cells small k d below)
+
+-- what a sum with room for at most 512 such children owes, and how large it is then
+pub small_value_sums : (n : ℕ) (cells : List Cell) (tallies : List Tally) → n < 512 → list_all is_small_cell cells ≡ true → ((t : ℕ) → unsigned_abs (tally_at tallies t).sum ≤ n * 10 ^ 6) → AreValueSums (with_cells cells tallies)
+small_value_sums n cells tallies few small sums t =
+    let grown : unsigned_abs (tally_at (with_cells cells tallies) t).sum ≤ 10 ^ 6 + n * 10 ^ 6 = sums_grow (10 ^ 6) (n * 10 ^ 6) cells tallies (small_amounts cells small) sums t in omega arith
+
+pub small_volume_sums : (n : ℕ) (cells : List Cell) (tallies : List Tally) → n < 512 → list_all is_small_cell cells ≡ true → ((t : ℕ) → unsigned_abs (tally_at tallies t).sum ≤ n * 10 ^ 6) → AreVolumeSums (with_cells cells tallies)
+small_volume_sums n cells tallies few small sums t =
+    let grown : unsigned_abs (tally_at (with_cells cells tallies) t).sum ≤ 10 ^ 6 + n * 10 ^ 6 = sums_grow (10 ^ 6) (n * 10 ^ 6) cells tallies (small_amounts cells small) sums t in omega arith
+
+pub small_sums_more : (n : ℕ) (cells : List Cell) (tallies new : List Tally) → new ≡ with_cells cells tallies → list_all is_small_cell cells ≡ true → ((t : ℕ) → unsigned_abs (tally_at tallies t).sum ≤ n * 10 ^ 6) →
+    (t : ℕ) → unsigned_abs (tally_at new t).sum ≤ (n + 1) * 10 ^ 6
+small_sums_more n cells tallies new is small sums t = subst (λ (list : List Tally). unsigned_abs (tally_at list t).sum ≤ (n + 1) * 10 ^ 6) (sym is)
+    (let grown : unsigned_abs (tally_at (with_cells cells tallies) t).sum ≤ 10 ^ 6 + n * 10 ^ 6 = sums_grow (10 ^ 6) (n * 10 ^ 6) cells tallies (small_amounts cells small) sums t in omega arith)

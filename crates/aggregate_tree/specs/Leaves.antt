@@ -1,7 +1,7 @@
 -- An item's cells are sums over the leaves under it, quarter by quarter: where all leaves have a value the sum of the values, else the first mark that
 -- occurs. Volumes at previous-year prices are additive (chapter 8 of the IMF Quarterly National Accounts Manual, 2017); the marks and the treatment of
 -- shorter leaves are this product's own.
-use Rattle.std.specs.Prelude.{◌≡◌, ℕ, ◌<◌, max, ℤ, pos, List, [], ◌∷◌, map, length}
+use Rattle.std.specs.Prelude.{◌≡◌, ℕ, ◌<◌, max, List, [], ◌∷◌, map, length}
 use Rattle.std.specs.List.{All, range_with_len, flat_map}
 use Rattle.price_base.specs.declared.Cell.{Cell}
 use Rattle.price_base.specs.Cells.{cell_at, combined, IsFlow}

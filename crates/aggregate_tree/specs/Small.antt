@@ -1,5 +1,5 @@
 -- Cells of the tests, whose numbers are so small that no sum of a few of them comes near its range.
-use Rattle.std.specs.Prelude.{ℕ, ◌^◌, nat_le, Bool, true, false, List, unsigned_abs}
+use Rattle.std.specs.Prelude.{◌^◌, nat_le, Bool, true, false, unsigned_abs}
 use Rattle.price_base.specs.declared.Cell.{Cell}
 use Rattle.price_base.specs.declared.Cell.TheVariants.{Missing, Value, NoBase, NoLink, Range}
 

@@ -1,5 +1,5 @@
 -- A sum of children as contracts see it.
-use Rattle.std.specs.Prelude.{◌≡◌, ℕ, ◌+◌, ◌≤◌, List, [], ◌∷◌, length, replicate}
+use Rattle.std.specs.Prelude.{◌≡◌, ℕ, ◌+◌, ◌≤◌, List, length, replicate}
 use Rattle.price_base.specs.declared.Cell.{Cell}
 use Rattle.aggregate_tree.specs.declared.tally.Tally.{Tally}
 use Rattle.aggregate_tree.specs.Tallies.{no_tally, tally_at, cells_of, with_cells, AreCounts, AreValueSums, AreVolumeSums}

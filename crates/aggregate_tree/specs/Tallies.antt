@@ -1,7 +1,7 @@
 -- What a sum keeps of each quarter, so that its cell is known and a child can be put in or taken out: the sum of the values, and how many of the
 -- children's cells are of each mark. It is this product's own.
 use Rattle.std.specs.Prelude.{◌≡◌, ℕ, ◌+◌, ◌^◌, ◌*◌, ◌≤◌, ◌<◌, nat_lt, ℤ, pos, ◌+ℤ◌, Bool, if◌then◌else◌, List, [], ◌∷◌, map, length, unsigned_abs, slice_get, slice_index_or, Option, Some, None}
-use Rattle.std.specs.List.{range_with_len, take_while, count_by}
+use Rattle.std.specs.List.{range_with_len, take_while}
 use Rattle.price_base.specs.declared.Cell.{Cell}
 use Rattle.price_base.specs.declared.Cell.TheVariants.{Missing, Value, NoBase, NoLink, Range}
 use Rattle.price_base.specs.Cells.{is_missing, is_no_base, is_range, total}

@@ -7,6 +7,3 @@ mod tally;
 
 pub use laws::{leaf_is_own_sum, sum_of_children_is_over_leaves};
 pub use sum::FlowSum;
-
-#[cfg(test)]
-mod tests;

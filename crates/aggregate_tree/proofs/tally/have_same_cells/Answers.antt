@@ -1,6 +1,5 @@
-use Rattle.std.proofs.Common.{◌≡◌, ◌∙◌, ap, sym, refl, map, length, get_or, true, false, arith}
-use Rattle.std.specs.List.{take_while}
-use Rattle.aggregate_tree.specs.Tallies.{no_tally, cell_of, is_reached, cells_of}
+use Rattle.std.proofs.Common.{◌≡◌, ◌∙◌, ap, sym, refl, map, get_or, true, arith}
+use Rattle.aggregate_tree.specs.Tallies.{no_tally, cell_of, cells_of}
 use Rattle.aggregate_tree.proofs.Places.{same_cells, same_cell}
 use Rattle.aggregate_tree.proofs.tally.have_same_cells.Goals as goal
 

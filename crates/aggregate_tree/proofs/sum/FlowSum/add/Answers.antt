@@ -1,7 +1,7 @@
-use Rattle.std.proofs.Common.{◌≡◌, ◌∙◌, ap, sym, subst, ◌+◌, ◌<◌, ◌≤◌, ◌++◌, ◌∷◌, List, length, take, drop, arith}
+use Rattle.std.proofs.Common.{◌≡◌, ◌∙◌, ap, sym, subst, ◌<◌, ◌≤◌, ◌++◌, ◌∷◌, List, length, take, drop, arith}
 use Rattle.aggregate_tree.specs.declared.tally.Tally.{Tally}
 use Rattle.aggregate_tree.specs.Tallies.{IsSumOf, with_cells, AreValueSums, AreVolumeSums}
-use Rattle.aggregate_tree.specs.Sum.{Sum, IsKept}
+use Rattle.aggregate_tree.specs.Sum.{Sum}
 use Rattle.aggregate_tree.proofs.Places.{length-with_cells, value_sums_fit, volume_sums_fit, written_back, sum_more}
 use Rattle.aggregate_tree.proofs.Kept.{kept_more}
 use Rattle.aggregate_tree.proofs.sum.FlowSum.add.Goals as goal
