@@ -1,0 +1,6 @@
+pub mod Combining
+pub mod Adding
+pub mod Counts
+pub mod Places
+pub mod Kept
+pub mod Sizes

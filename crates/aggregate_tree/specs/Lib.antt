@@ -1,0 +1,4 @@
+pub mod Leaves
+pub mod Tallies
+pub mod Sum
+pub mod Small
