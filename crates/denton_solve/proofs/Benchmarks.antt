@@ -1,7 +1,7 @@
 -- The values of a year add up to its benchmark.
-use Rattle.std.specs.Prelude.{◌≡◌, ℕ, ◌+◌, ◌^◌, ℤ, pos, ◌+ℤ◌, ◌*ℤ◌, [], ◌∷◌, slice_index, slice_index_or}
+use Rattle.std.specs.Prelude.{◌≡◌, ℕ, ◌^◌, ℤ, pos, ◌*ℤ◌, [], ◌∷◌, slice_index, slice_index_or}
 use Rattle.std.proofs.Common.{refl}
-use Rattle.ratio_arith.proofs.Ring.{same_by_ring, Term, var, num, ◌⊕◌, ◌⊖◌, ◌⊗◌}
+use Rattle.ratio_arith.proofs.Ring.{same_by_ring, var, num, ◌⊕◌, ◌⊖◌, ◌⊗◌}
 use Rattle.sum_rounding.specs.ShareOut.{sum_of}
 use Rattle.denton_parts.specs.Level.{rises}
 use Rattle.denton_parts.specs.Year.{year_sum}
@@ -24,5 +24,5 @@ parts_add_up k year left right =
     let weighed = i1 ⊗ r1 ⊕ i2 ⊗ r2 ⊕ i3 ⊗ r3 in
     let base = scale ⊗ benchmark ⊖ weighed in
     same_by_ring (pos (slice_index year.ind 0) ∷ pos (slice_index year.ind 1) ∷ pos (slice_index year.ind 2) ∷ pos (slice_index year.ind 3) ∷ pos (10 ^ k) ∷ year.bench ∷ slice_index_or (rises year.ind left right) 1 (pos 0) ∷ slice_index_or (rises year.ind left right) 2 (pos 0) ∷ slice_index_or (rises year.ind left right) 3 (pos 0) ∷ [])
-      (i0 ⊗ (base ⊕ sum ⊗ num (pos 0)) ⊕ (i1 ⊗ (base ⊕ sum ⊗ r1) ⊕ (i2 ⊗ (base ⊕ sum ⊗ r2) ⊕ (i3 ⊗ (base ⊕ sum ⊗ r3) ⊕ num (pos 0)))))
-      ((scale ⊗ sum) ⊗ benchmark) refl
+    (i0 ⊗ (base ⊕ sum ⊗ num (pos 0)) ⊕ (i1 ⊗ (base ⊕ sum ⊗ r1) ⊕ (i2 ⊗ (base ⊕ sum ⊗ r2) ⊕ (i3 ⊗ (base ⊕ sum ⊗ r3) ⊕ num (pos 0)))))
+    ((scale ⊗ sum) ⊗ benchmark) refl

@@ -1,6 +1,6 @@
 -- The loop over pairs of sweeps: how it begins, and how many steps it takes.
-use Rattle.std.specs.Prelude.{◌≡◌, ℕ, ◌+◌, ◌-◌, ◌*◌, ◌^◌, ◌≤◌, ◌<◌, ℤ, pos, List, [], ◌∷◌, length, replicate, unsigned_abs}
-use Rattle.std.proofs.Common.{refl, sym, ◌∙◌, ap, arith, zero, suc, get_or}
+use Rattle.std.specs.Prelude.{◌≡◌, ℕ, ◌+◌, ◌-◌, ◌*◌, ◌^◌, ◌≤◌, ◌<◌, ℤ, pos, List, length, replicate, unsigned_abs}
+use Rattle.std.proofs.Common.{◌∙◌, ap, arith, zero, suc, get_or}
 use Rattle.std.proofs.Math.Nat.{mul-le-mul_right}
 use Rattle.denton_parts.specs.declared.year.YearPart.{YearPart}
 use Rattle.denton_solve.specs.Conditions.{AreMultipliers}

@@ -1,7 +1,7 @@
 -- At the scale of the years each of them fits, and the scale is at most 15.
-use Rattle.std.specs.Prelude.{◌≡◌, ℕ, ◌≤◌, ◌<◌, Bool, true, false, cond, List, length}
+use Rattle.std.specs.Prelude.{◌≡◌, ℕ, ◌≤◌, Bool, true, false, cond, List}
 use Rattle.std.specs.List.{list_all}
-use Rattle.std.proofs.Common.{arith, zero, suc, refl, get_or}
+use Rattle.std.proofs.Common.{arith, zero, suc, get_or}
 use Rattle.std.proofs.lemmas.List.Sums.{AllPass-from_list_all}
 use Rattle.denton_parts.specs.Scale.{fits_scale, greatest_up_to, scale_of_years}
 use Rattle.denton_parts.specs.declared.year.YearPart.{YearPart}

@@ -1,5 +1,5 @@
 -- The shares of squares that make a joint's weight are from 0 to 1000.
-use Rattle.std.specs.Prelude.{◌≡◌, ℤ, pos, ◌*ℤ◌, neg_ℤ, ◌≤ℤ◌, ◌<ℤ◌}
+use Rattle.std.specs.Prelude.{◌≡◌, ℤ, pos, ◌*ℤ◌, ◌≤ℤ◌, ◌<ℤ◌}
 use Rattle.std.proofs.Common.{refl, arith}
 use Rattle.std.proofs.Math.IntN.{*ℤ_comm}
 use Rattle.ratio_arith.proofs.Floors.{ceil_is}

@@ -76,7 +76,7 @@ swept_at k years from into whole y d own first last weight after hy hf hi e_own 
     let here : after ≡ cut_of (moved_of k (get_or years y d) (get_or years (suc y) d) (get_or (pos 0 ∷ from) y (pos 0)) (get_or from y (pos 0)) (first_of (drop (suc y) from))) = moved ∙ ap (λ u. cut_of (moved_of k (get_or years y d) (get_or years (suc y) d) (get_or (pos 0 ∷ from) y (pos 0)) u (first_of (drop (suc y) from)))) place in
     let step = sweep_step k (get_or (pos 0 ∷ from) y (pos 0)) years from y d (omega arith) hf in
     rw (take_more_set into y after hi, append_assoc, add-one)
-      (ap (λ u. take y into ++ (u ∷ sweep_after k (get_or from y (pos 0)) (drop (suc y) years) (drop (suc y) from))) here ∙ ap (λ u. take y into ++ u) (sym step) ∙ e)
+    (ap (λ u. take y into ++ (u ∷ sweep_after k (get_or from y (pos 0)) (drop (suc y) years) (drop (suc y) from))) here ∙ ap (λ u. take y into ++ u) (sym step) ∙ e)
 
 -- one more joint of a sweep is done
 pub swept : (k : ℕ) (years : List YearPart) (from into whole : List ℤ) (y : ℕ) (own first last weight after : ℤ) → y + 1 < length years → y < length from → y < length into → own ≡ first_of (drop y from) →

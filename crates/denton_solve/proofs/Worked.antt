@@ -1,5 +1,5 @@
 -- The definitions computed on worked examples.
-use Rattle.std.specs.Prelude.{◌≡◌, ◌≤◌, ◌^◌, ℕ, ℤ, pos, neg_ℤ, List, [], ◌∷◌, unsigned_abs}
+use Rattle.std.specs.Prelude.{◌≡◌, ℕ, ℤ, pos, neg_ℤ, List, [], ◌∷◌}
 use Rattle.std.proofs.Common.{refl, arith}
 use Rattle.sum_rounding.specs.ShareOut.{share_of}
 use Rattle.denton_parts.specs.Scale.{greatest_up_to, scale_of_years}

@@ -13,6 +13,7 @@ use ratio_arith::{ceil_div, floor_div};
 pub const JOINTS: usize = 127;
 
 const LEAST: i128 = -1_000_000_000_000_000;
+
 const MOST: i128 = 1_000_000_000_000_000;
 
 /// The weights of the joints, first to last.
@@ -33,7 +34,12 @@ fn weight(year: &YearPart, next: &YearPart) -> i128
     ensures least { pos 1000 ≤ℤ result }
 {
     joined(
-        three(earlier(year, 1), earlier(year, 2), earlier(year, 3), year.sum),
+        three(
+            earlier(year, 1),
+            earlier(year, 2),
+            earlier(year, 3),
+            year.sum,
+        ),
         three(rest(next, 1), rest(next, 2), rest(next, 3), next.sum),
     )
 }

@@ -1,8 +1,8 @@
-use Rattle.std.proofs.Common.{rules, arith, ◌≡◌, ◌+◌, ◌-◌, ◌*◌, ◌≤◌, ℤ, List, IsTrue, inl, inr, pos, length, replicate, ap, sym, ◌∙◌, subst}
+use Rattle.std.proofs.Common.{rules, arith, ◌≡◌, ◌+◌, ℤ, List, IsTrue, inl, inr, pos, length, replicate, ap, sym, ◌∙◌, subst}
 use Rattle.std.specs.List.{list_all}
 use Rattle.denton_parts.specs.Scale.{fits_scale}
 use Rattle.denton_solve.specs.Conditions.{AreMultipliers}
-use Rattle.denton_solve.specs.Sweeps.{sweep_of, iterated, no_multipliers}
+use Rattle.denton_solve.specs.Sweeps.{sweep_of, no_multipliers}
 use Rattle.denton_solve.proofs.Pairs.{zeros_at, zeros_small, multipliers_of-is, multipliers_found, steps_first, steps_second, steps_all}
 use Rattle.denton_solve.proofs.Scaled.{scaled, greatest_most}
 use Rattle.denton_solve.proofs.Steps.{sweep_of-sizes, iterated-none, iterated-pair, back_first, back_second}

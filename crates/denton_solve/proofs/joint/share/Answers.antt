@@ -1,4 +1,4 @@
-use Rattle.std.proofs.Common.{rules, arith, ◌≡◌, pos, ◌*ℤ◌, ◌≤ℤ◌, FitsSigned, ap, ◌∙◌, sym, subst, ℤ}
+use Rattle.std.proofs.Common.{rules, arith, ◌≡◌, pos, ◌*ℤ◌, FitsSigned, ap, ◌∙◌}
 use Rattle.std.specs.Int.{w128}
 use Rattle.std.proofs.lemmas.Int.{to_z-of_z}
 use Rattle.ratio_arith.specs.Division.{ceil_of}

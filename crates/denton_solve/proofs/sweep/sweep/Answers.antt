@@ -38,9 +38,9 @@ loop-y-preserved g c =
       ends = λ other. same_last ∙ next_ends c.args.scale c.args.parts.now c.args.from.now c.loop-y.y c.multiplier_at-own.result c.ends_at-next.result.last c.multiplier_at-own.ensures.value last other;
       size = rw same_last c.ends_at-next.ensures.last_size;
       back = λ t.
-        let kept = c.kept-same.ensures t in
-        let equal : c.moved-after.result ≡ get_or c.loop-y.into c.loop-y.y (pos 0) = simp to_z-of_z at kept.1 in
-        rw same (ap (λ u. set c.loop-y.into c.loop-y.y u) equal ∙ set-get_or c.loop-y.into c.loop-y.y (pos 0) ∙ c.loop-y.invariant.back kept.0);
+          let kept = c.kept-same.ensures t in
+          let equal : c.moved-after.result ≡ get_or c.loop-y.into c.loop-y.y (pos 0) = simp to_z-of_z at kept.1 in
+          rw same (ap (λ u. set c.loop-y.into c.loop-y.y u) equal ∙ set-get_or c.loop-y.into c.loop-y.y (pos 0) ∙ c.loop-y.invariant.back kept.0);
       count = omega arith;
     }
 
