@@ -1,0 +1,7 @@
+pub mod Benchmarks
+pub mod Pairs
+pub mod Scaled
+pub mod Shares
+pub mod Steps
+pub mod Weights
+pub mod Worked
