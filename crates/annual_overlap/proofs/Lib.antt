@@ -1,0 +1,2 @@
+pub mod Drift
+mod Rows

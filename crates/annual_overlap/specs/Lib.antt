@@ -1,0 +1,5 @@
+pub mod Years
+pub mod Chain
+pub mod Quarters
+pub mod Drift
+pub mod Table
