@@ -1,2 +1,5 @@
 pub mod Drift
+pub mod Points
+pub mod Products
 mod Rows
+pub mod YearSums

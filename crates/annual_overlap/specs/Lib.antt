@@ -3,3 +3,4 @@ pub mod Chain
 pub mod Quarters
 pub mod Drift
 pub mod Table
+pub mod Sizes

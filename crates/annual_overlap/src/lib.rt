@@ -3,6 +3,10 @@
 
 use price_base::{Cell, Cells};
 
+mod levels;
+mod quarters;
+mod years;
+
 /// A ratio of two whole numbers above zero that is never rounded, or the mark that says why there is none.
 #[derive(Clone, Copy)]
 pub enum Ratio {
