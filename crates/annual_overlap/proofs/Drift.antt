@@ -54,13 +54,21 @@ near_step s n d level drift over under next wider hd ho exact rounded room =
     let e4 : d *ℤ (drift *ℤ over +ℤ under) ≡ over *ℤ (drift *ℤ d) +ℤ d *ℤ under = same_by_ring values (var 2 ⊗ (var 4 ⊗ var 5 ⊕ var 6)) (var 5 ⊗ (var 4 ⊗ var 2) ⊕ var 2 ⊗ var 6) refl in
     omega (arith, linear)
 
--- a point is within its drift of ten thousand times a fraction with a positive divisor
+-- a cell that is no number
+abbrev pub IsMark : Cell → Type 0
+IsMark (Value number) = ⊥
+IsMark Missing = Unit {0}
+IsMark NoBase = Unit {0}
+IsMark NoLink = Unit {0}
+IsMark Range = Unit {0}
+
+-- a point is a mark, or it is within its drift of ten thousand times a fraction with a positive divisor
 abbrev pub IsExact : Point → ℤ → ℤ → Type 0
 IsExact (Known level drift) n d = (pos 0 <ℤ d) × IsNear (pos 10000 *ℤ n) (level *ℤ d) (drift *ℤ d)
-IsExact (Marked mark) n d = Unit {0}
+IsExact (Marked mark) n d = IsMark mark
 
 exact_at : (p : Point) (n d m e : ℤ) → n ≡ m → d ≡ e → IsExact p n d → IsExact p m e
-exact_at (Marked mark) n d m e en ed exact = tt
+exact_at (Marked mark) n d m e en ed exact = exact
 exact_at (Known level drift) n d m e en ed exact = rw (← en, ← ed) exact
 
 -- so is the point after one step
@@ -75,7 +83,7 @@ moved_near level drift over under n d ho hu hd exact = by (int_le (round_of (lev
 -- one step forward along a link
 pub forward_near : (p : Point) (before volume : Cell) (n d : ℤ) → IsExact p n d →
     IsExact (step_forward p (link_of before volume)) (n *ℤ number_or (pos 1) volume) (d *ℤ number_or (pos 1) before)
-forward_near (Marked mark) before volume n d exact = tt
+forward_near (Marked mark) before volume n d exact = exact
 forward_near (Known level drift) (Value before) (Value volume) n d exact = by (int_le volume (pos 0)) refl (int_le before (pos 0)) refl (int_le before (pos (10 ^ 18)))
   where
     by : (x : Bool) → int_le volume (pos 0) ≡ x → (y : Bool) → int_le before (pos 0) ≡ y → (z : Bool) →
@@ -112,7 +120,7 @@ forward_near (Known level drift) Range Range n d exact = tt
 -- one step backward along a link
 pub backward_near : (p : Point) (before volume : Cell) (n d : ℤ) → IsExact p n d →
     IsExact (step_backward p (link_of before volume)) (n *ℤ number_or (pos 1) before) (d *ℤ number_or (pos 1) volume)
-backward_near (Marked mark) before volume n d exact = tt
+backward_near (Marked mark) before volume n d exact = exact
 backward_near (Known level drift) (Value before) (Value volume) n d exact = by (int_le volume (pos 0)) refl (int_le before (pos 0)) refl (int_le before (pos (10 ^ 18)))
   where
     by : (x : Bool) → int_le volume (pos 0) ≡ x → (y : Bool) → int_le before (pos 0) ≡ y → (z : Bool) →
