@@ -197,7 +197,7 @@ after_near values volumes reference (suc n) =
     let y = product_from volumes (reference + 1) n in
     let z = number_or (pos 1) (cell_at volumes (reference + n + 1)) in
     let e : (x *ℤ y) *ℤ z ≡ x *ℤ (y *ℤ number_or (pos 1) (cell_at volumes (reference + 1 + n))) =
-        same_by_ring (x ∷ y ∷ z ∷ []) (var 0 ⊗ var 1 ⊗ var 2) (var 0 ⊗ (var 1 ⊗ var 2)) refl ∙ ap (λ k. x *ℤ (y *ℤ number_or (pos 1) (cell_at volumes k))) place in
+    same_by_ring (x ∷ y ∷ z ∷ []) (var 0 ⊗ var 1 ⊗ var 2) (var 0 ⊗ (var 1 ⊗ var 2)) refl ∙ ap (λ k. x *ℤ (y *ℤ number_or (pos 1) (cell_at volumes k))) place in
     exact_at (years_after values volumes reference (suc n)) _ _ _ _ e refl step
 
 -- all levels before the reference year
@@ -216,9 +216,9 @@ before_near values volumes reference (suc n) below =
     let v = product_from volumes (reference - suc n + 1 + 1) n in
     let w = number_or (pos 1) (cell_at volumes (reference - suc n + 1)) in
     let e : (x *ℤ product_from values (reference - n) n) *ℤ z ≡ x *ℤ product_from values (reference - suc n) (suc n) =
-        ap (λ k. (x *ℤ product_from values k n) *ℤ z) next ∙ same_by_ring (x ∷ y ∷ z ∷ []) (var 0 ⊗ var 1 ⊗ var 2) (var 0 ⊗ (var 2 ⊗ var 1)) refl ∙ ap (λ u. x *ℤ u) (sym (product_front values (reference - suc n) n)) in
+    ap (λ k. (x *ℤ product_from values k n) *ℤ z) next ∙ same_by_ring (x ∷ y ∷ z ∷ []) (var 0 ⊗ var 1 ⊗ var 2) (var 0 ⊗ (var 2 ⊗ var 1)) refl ∙ ap (λ u. x *ℤ u) (sym (product_front values (reference - suc n) n)) in
     let f : product_from volumes (reference - n + 1) n *ℤ w ≡ product_from volumes (reference - suc n + 1) (suc n) =
-        ap (λ k. product_from volumes (k + 1) n *ℤ w) next ∙ same_by_ring (v ∷ w ∷ []) (var 0 ⊗ var 1) (var 1 ⊗ var 0) refl ∙ sym (product_front volumes (reference - suc n + 1) n) in
+    ap (λ k. product_from volumes (k + 1) n *ℤ w) next ∙ same_by_ring (v ∷ w ∷ []) (var 0 ⊗ var 1) (var 1 ⊗ var 0) refl ∙ sym (product_front volumes (reference - suc n + 1) n) in
     exact_at (years_before values volumes reference (suc n)) _ _ _ _ e f step
 
 -- all levels
@@ -234,9 +234,9 @@ point_near values volumes reference y = by (nat_lt y reference) refl
         let u = product_from values y (reference - y) in
         let v = product_from volumes (y + 1) (reference - y) in
         let e : x *ℤ product_from values (reference - (reference - y)) (reference - y) ≡ exact_num values volumes reference y =
-            ap (λ k. x *ℤ product_from values k (reference - y)) back ∙ same_by_ring (x ∷ u ∷ []) (var 0 ⊗ var 1) (var 0 ⊗ num (pos 1) ⊗ var 1) refl ∙ ap (λ k. x *ℤ product_from volumes (reference + 1) k *ℤ u) (sym none) in
+        ap (λ k. x *ℤ product_from values k (reference - y)) back ∙ same_by_ring (x ∷ u ∷ []) (var 0 ⊗ var 1) (var 0 ⊗ num (pos 1) ⊗ var 1) refl ∙ ap (λ k. x *ℤ product_from volumes (reference + 1) k *ℤ u) (sym none) in
         let f : product_from volumes (reference - (reference - y) + 1) (reference - y) ≡ exact_den values volumes reference y =
-            ap (λ k. product_from volumes (k + 1) (reference - y)) back ∙ same_by_ring (v ∷ []) (var 0) (num (pos 1) ⊗ var 0) refl ∙ ap (λ k. product_from values reference k *ℤ v) (sym none) in
+        ap (λ k. product_from volumes (k + 1) (reference - y)) back ∙ same_by_ring (v ∷ []) (var 0) (num (pos 1) ⊗ var 0) refl ∙ ap (λ k. product_from values reference k *ℤ v) (sym none) in
         exact_at _ _ _ _ _ e f (before_near values volumes reference (reference - y) (omega arith))
     by false less =
         let above : reference ≤ y = grind (arith, less) in
@@ -245,6 +245,6 @@ point_near values volumes reference y = by (nat_lt y reference) refl
         let u = product_from volumes (reference + 1) (y - reference) in
         let v = product_from values reference (y - reference) in
         let e : x *ℤ u ≡ exact_num values volumes reference y =
-            same_by_ring (x ∷ u ∷ []) (var 0 ⊗ var 1) (var 0 ⊗ var 1 ⊗ num (pos 1)) refl ∙ ap (λ k. x *ℤ u *ℤ product_from values y k) (sym none) in
+        same_by_ring (x ∷ u ∷ []) (var 0 ⊗ var 1) (var 0 ⊗ var 1 ⊗ num (pos 1)) refl ∙ ap (λ k. x *ℤ u *ℤ product_from values y k) (sym none) in
         let f : v ≡ exact_den values volumes reference y = same_by_ring (v ∷ []) (var 0) (var 0 ⊗ num (pos 1)) refl ∙ ap (λ k. v *ℤ product_from volumes (y + 1) k) (sym none) in
         exact_at _ _ _ _ _ e f (after_near values volumes reference (y - reference))

@@ -1,5 +1,6 @@
 -- The laws of an item's chain as a whole: sizes, the drift's meaning, and that quarters add up.
-use Rattle.std.proofs.Common.{◌≡◌, ℕ, zero, suc, ◌^◌, ◌<◌, ◌≤◌, ℤ, pos, ◌*ℤ◌, Bool, true, false, List, [], ◌∷◌, map, length, get_or, arith, ap, sym, ◌∙◌, refl, subst, nat_lt}
+use Rattle.std.proofs.Common.{◌≡◌, ℕ, zero, suc, ◌*◌, ◌^◌, ◌<◌, ◌≤◌, ℤ, pos, ◌*ℤ◌, Bool, true, false, List, [], ◌∷◌, map, length, get_or, arith, ap, sym, ◌∙◌, refl, subst, nat_lt}
+use Rattle.std.specs.List.{All}
 use Rattle.std.proofs.lemmas.List.{get_or_past}
 use Rattle.std.proofs.lemmas.List.FromFn.{length-map-range_with_len, get_or-map-range_with_len}
 use Rattle.ratio_arith.specs.Nearness.{IsNear}
@@ -10,20 +11,25 @@ use Rattle.price_base.specs.Cells.{cell_at}
 use Rattle.annual_overlap.specs.declared.Point.{Point}
 use Rattle.annual_overlap.specs.declared.Point.TheVariants.{Known, Marked}
 use Rattle.annual_overlap.specs.declared.ChainTable.{ChainTable}
-use Rattle.annual_overlap.specs.Years.{years_of, IsSizedCell}
+use Rattle.annual_overlap.specs.Years.{year_count, quarters_in, years_of, IsSizedCell}
 use Rattle.annual_overlap.specs.Chain.{point_at, points_of, level_cell, drift_cell}
 use Rattle.annual_overlap.specs.Quarters.{chained_of}
-use Rattle.annual_overlap.specs.Sizes.{IsSmallPoint}
+use Rattle.annual_overlap.specs.Sizes.{IsSmallPoint, IsTotalOf}
 use Rattle.annual_overlap.specs.Drift.{exact_num, exact_den, IsWithinDrift, AreWithinDrift}
 use Rattle.annual_overlap.specs.Table.{chain_of, DoQuartersAddUp}
 use Rattle.annual_overlap.proofs.Drift.{IsExact, point_near}
-use Rattle.annual_overlap.proofs.Shares.{year_adds_up}
+use Rattle.annual_overlap.proofs.Shares.{year_adds_up, length-chained_of}
+use Rattle.annual_overlap.proofs.YearSums.{length-years_of, sized_wider, sized_at, years_sized, years_total}
 
 -- a place of a mapped list
 at_map : (f : Point → Cell) (points : List Point) (k : ℕ) (d : Point) → get_or (map f points) k (f d) ≡ f (get_or points k d)
 at_map f [] k d = refl
 at_map f (p ∷ points) zero d = refl
 at_map f (p ∷ points) (suc k) d = at_map f points k d
+
+length-mapped : (f : Point → Cell) (points : List Point) → length (map f points) ≡ length points
+length-mapped f [] = refl
+length-mapped f (p ∷ points) = ap suc (length-mapped f points)
 
 -- each level in the list is exact, and past its end there is a mark
 exact_points : (values volumes : List Cell) (reference y : ℕ) →
@@ -78,7 +84,7 @@ pub levels_sized : (values volumes levels : List Cell) (points : List Point) (re
 levels_sized values volumes levels points reference ep el small k =
     let exact = exact_points values volumes reference k in
     let is : IsExact (get_or points k (Marked Missing)) (exact_num values volumes reference k) (exact_den values volumes reference k) =
-        subst (λ (list : List Point). IsExact (get_or list k (Marked Missing)) (exact_num values volumes reference k) (exact_den values volumes reference k)) (sym ep) exact in
+    subst (λ (list : List Point). IsExact (get_or list k (Marked Missing)) (exact_num values volumes reference k) (exact_den values volumes reference k)) (sym ep) exact in
     let e : cell_at levels k ≡ level_cell (get_or points k (Marked Missing)) = ap (λ (list : List Cell). cell_at list k) el ∙ at_map level_cell points k (Marked Missing) in
     subst (λ (cell : Cell). IsSizedCell (10 ^ 19) cell) (sym e) (level_sized (get_or points k (Marked Missing)) _ _ is (small k))
 
@@ -96,8 +102,46 @@ chain_adds_up table value prev reference e =
     (λ y v k l. year_adds_up (years_of value) (map level_cell (points_of (years_of value) (years_of prev) reference)) prev y v k l)
 
 -- a chain from its parts
-pub chain_from : (value prev values volumes levels drifts quarters : List Cell) (points : List Point) (reference : ℕ) → values ≡ years_of value → volumes ≡ years_of prev →
+pub chain_from : (value prev values volumes levels drifts quarters v w x y z : List Cell) (points : List Point) (reference : ℕ) → values ≡ years_of value → volumes ≡ years_of prev →
     points ≡ points_of values volumes reference → levels ≡ map level_cell points → drifts ≡ map drift_cell points → quarters ≡ chained_of values volumes levels prev →
-    (record { value = values; prev = volumes; level = levels; drift = drifts; quarter = quarters }) ≡ chain_of value prev reference
+    v ≡ values → w ≡ volumes → x ≡ levels → y ≡ drifts → z ≡ quarters →
+    ◌≡◌ {A = ChainTable} (record { value = v; prev = w; level = x; drift = y; quarter = z }) (chain_of value prev reference)
 unfolding chain_of
-chain_from value prev values volumes levels drifts quarters points reference e0 e1 e2 e3 e4 e5 = cc
+chain_from value prev values volumes levels drifts quarters v w x y z points reference e0 e1 e2 e3 e4 e5 e6 e7 e8 e9 e10 =
+    let ps : points ≡ points_of (years_of value) (years_of prev) reference = e2 ∙ ap (λ l. points_of l volumes reference) e0 ∙ ap (λ l. points_of (years_of value) l reference) e1 in
+    let ls : levels ≡ map level_cell (points_of (years_of value) (years_of prev) reference) = e3 ∙ ap (map level_cell) ps in
+    let ds : drifts ≡ map drift_cell (points_of (years_of value) (years_of prev) reference) = e4 ∙ ap (map drift_cell) ps in
+    let qs : quarters ≡ chained_of (years_of value) (years_of prev) (map level_cell (points_of (years_of value) (years_of prev) reference)) prev =
+    e5 ∙ ap (λ l. chained_of l volumes levels prev) e0 ∙ ap (λ l. chained_of (years_of value) l levels prev) e1 ∙ ap (λ l. chained_of (years_of value) (years_of prev) l prev) ls in
+    rw (e6 ∙ e0, e7 ∙ e1, e8 ∙ ls, e9 ∙ ds, e10 ∙ qs) refl
+
+-- how many years and quarters a chain has
+pub chain_years : (table : ChainTable) (value prev : List Cell) (reference : ℕ) → table ≡ chain_of value prev reference → length value ≡ length prev →
+    (length table.value ≡ year_count (length value)) × (length table.prev ≡ year_count (length value)) × (length table.level ≡ year_count (length value)) × (length table.drift ≡ year_count (length value))
+unfolding chain_of points_of
+chain_years table value prev reference e same =
+    let points : List Point = points_of (years_of value) (years_of prev) reference in
+    let years : length points ≡ year_count (length value) = length-map-range_with_len (point_at (years_of value) (years_of prev) reference) 0 (length (years_of value)) ∙ length-years_of value in (
+      ap (λ (t : ChainTable). length t.value) e ∙ length-years_of value,
+      ap (λ (t : ChainTable). length t.prev) e ∙ length-years_of prev ∙ ap year_count (sym same),
+      ap (λ (t : ChainTable). length t.level) e ∙ length-mapped level_cell points ∙ years,
+      ap (λ (t : ChainTable). length t.drift) e ∙ length-mapped drift_cell points ∙ years,
+    )
+
+pub chain_quarters : (table : ChainTable) (value prev : List Cell) (reference : ℕ) → table ≡ chain_of value prev reference → length value ≡ length prev → length table.quarter ≡ length value
+unfolding chain_of
+chain_quarters table value prev reference e same = ap (λ (t : ChainTable). length t.quarter) e ∙ length-chained_of _ _ _ prev ∙ sym same
+
+-- the sizes that the parts of a chain are made from
+pub volumes_small : (prev volumes : List Cell) → volumes ≡ years_of prev → All (IsSizedCell (512 * 10 ^ 15)) prev → (k : ℕ) → IsSizedCell (4 * 10 ^ 18) (cell_at volumes k)
+volumes_small prev volumes e all k =
+    subst (λ (list : List Cell). IsSizedCell (4 * 10 ^ 18) (cell_at list k)) (sym e)
+    (sized_wider (4 * (512 * 10 ^ 15)) (4 * 10 ^ 18) (cell_at (years_of prev) k) (omega arith) (years_sized (512 * 10 ^ 15) prev (sized_at (512 * 10 ^ 15) prev all) k))
+
+pub years_few : (value values : List Cell) → values ≡ years_of value → length value ≤ 512 → length values ≤ 512
+years_few value values e few = let n : length values ≡ year_count (length value) = ap length e ∙ length-years_of value in omega arith
+
+pub volumes_total : (prev volumes quarters : List Cell) → volumes ≡ years_of prev → quarters ≡ prev → (k : ℕ) → IsTotalOf (cell_at volumes k) (quarters_in quarters k)
+volumes_total prev volumes quarters e same k =
+    subst (λ (list : List Cell). IsTotalOf (cell_at list k) (quarters_in quarters k)) (sym e)
+    (subst (λ (list : List Cell). IsTotalOf (cell_at (years_of prev) k) (quarters_in list k)) (sym same) (years_total prev k))

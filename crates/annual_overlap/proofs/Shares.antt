@@ -122,9 +122,9 @@ four_same a b c d e f g h p q r s =
 pub year_adds_up : (values levels quarters : List Cell) (y : ℕ) (value volume level : ℤ) → cell_at values y ≡ Value value → cell_at (years_of quarters) y ≡ Value volume → cell_at levels y ≡ Value level →
     pos 0 <ℤ volume → year_cell (chained_of values (years_of quarters) levels quarters) y ≡ Value level
 year_adds_up values levels quarters y value volume level ev ek el positive = elim (year_at quarters y) [
-    | inl e ↦ there (sym e ∙ ek)
-    | inr e ↦ absurd (apart volume (sym ek ∙ e))
-  ]
+  | inl e ↦ there (sym e ∙ ek)
+  | inr e ↦ absurd (apart volume (sym ek ∙ e))
+]
   where
     apart : (number : ℤ) → Value number ≡ Missing → ⊥
     apart number h = cc
@@ -138,10 +138,10 @@ year_adds_up values levels quarters y value volume level ev ek el positive = eli
         let law : IsShareOut parts volume level shares = ranks_share_out parts volume level (can_share level volume quarters y positive (total_from_combined (quarters_in quarters y) volume e)) in
         let rate = rate_at values volumes levels y in
         let made : chained_in values volumes levels quarters y ≡ map Value shares =
-            ap (λ cell. chained_year cell (cell_at volumes y) (cell_at levels y) rate (quarters_in quarters y)) ev ∙
-            ap (λ cell. chained_year (Value value) cell (cell_at levels y) rate (quarters_in quarters y)) ek ∙
-            ap (λ cell. chained_year (Value value) (Value volume) cell rate (quarters_in quarters y)) el ∙
-            shared_year level volume (quarters_in quarters y) positive in
+        ap (λ cell. chained_year cell (cell_at volumes y) (cell_at levels y) rate (quarters_in quarters y)) ev ∙
+        ap (λ cell. chained_year (Value value) cell (cell_at levels y) rate (quarters_in quarters y)) ek ∙
+        ap (λ cell. chained_year (Value value) (Value volume) cell rate (quarters_in quarters y)) el ∙
+        shared_year level volume (quarters_in quarters y) positive in
         let q0 : cell_at (chained_of values volumes levels quarters) (4 * y) ≡ cell_at (map Value shares) 0 = ap (λ k. cell_at (chained_of values volumes levels quarters) k) (plus_nothing (4 * y)) ∙ quarter_of values volumes levels quarters y 0 (omega arith) (omega arith) ∙ ap (λ (list : List Cell). cell_at list 0) made in
         let q1 : cell_at (chained_of values volumes levels quarters) (4 * y + 1) ≡ cell_at (map Value shares) 1 = quarter_of values volumes levels quarters y 1 (omega arith) (omega arith) ∙ ap (λ (list : List Cell). cell_at list 1) made in
         let q2 : cell_at (chained_of values volumes levels quarters) (4 * y + 2) ≡ cell_at (map Value shares) 2 = quarter_of values volumes levels quarters y 2 (omega arith) (omega arith) ∙ ap (λ (list : List Cell). cell_at list 2) made in

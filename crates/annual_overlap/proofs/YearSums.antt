@@ -81,7 +81,7 @@ parts_total level volume a b c d p q r s adds ep eq er es =
     let z = number_or (pos 0) d in
     let sum : w +ℤ x +ℤ y +ℤ z ≡ volume = sym (total_of_four a b c d) ∙ adds in
     let e : (w +ℤ x +ℤ y +ℤ z) *ℤ level ≡ level *ℤ w +ℤ (level *ℤ x +ℤ (level *ℤ y +ℤ level *ℤ z)) =
-        same_by_ring (level ∷ w ∷ x ∷ y ∷ z ∷ []) ((var 1 ⊕ var 2 ⊕ var 3 ⊕ var 4) ⊗ var 0) (var 0 ⊗ var 1 ⊕ (var 0 ⊗ var 2 ⊕ (var 0 ⊗ var 3 ⊕ var 0 ⊗ var 4))) refl in
+    same_by_ring (level ∷ w ∷ x ∷ y ∷ z ∷ []) ((var 1 ⊕ var 2 ⊕ var 3 ⊕ var 4) ⊗ var 0) (var 0 ⊗ var 1 ⊕ (var 0 ⊗ var 2 ⊕ (var 0 ⊗ var 3 ⊕ var 0 ⊗ var 4))) refl in
     let f : (w +ℤ x +ℤ y +ℤ z) *ℤ level ≡ volume *ℤ level = ap (λ u. u *ℤ level) sum in
     omega (arith, linear)
 

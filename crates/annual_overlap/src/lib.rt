@@ -83,3 +83,6 @@ pub fn chain(alloc: Global, flows: &NodeFlows, reference: Year) -> Result<ChainT
         quarter: Cells::from(quarter),
     })
 }
+
+#[cfg(test)]
+mod tests;

@@ -115,10 +115,7 @@ fn rate_in(values: &[Cell], volumes: &[Cell], levels: &[Cell], year: usize) -> R
     ensures range { IsSmallRate result }
 {
     if year == 0 {
-        Ratio::Broken(mark_of(
-            cell_or_missing(volumes, 0),
-            cell_or_missing(values, 0),
-        ))
+        Ratio::Broken(mark_of(cell_or_missing(volumes, 0), cell_or_missing(values, 0)))
     } else {
         rate_between(
             cell_or_missing(levels, year - 1),
@@ -237,13 +234,7 @@ pub struct LinkedYear {
 }
 
 /// The four quarters of a year.
-fn chained(
-    year: LinkedYear,
-    first: Cell,
-    second: Cell,
-    third: Cell,
-    fourth: Cell,
-) -> [Cell; 4]
+fn chained(year: LinkedYear, first: Cell, second: Cell, third: Cell, fourth: Cell) -> [Cell; 4]
     requires volume { IsSizedCell (4 * 10 ^ 18) year.volume }
     requires level { IsSizedCell (10 ^ 19) year.level }
     requires rate { IsSmallRate year.rate }

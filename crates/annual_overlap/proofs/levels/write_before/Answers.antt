@@ -21,7 +21,7 @@ pub loop-year-preserved : goal.loop-year-preserved
 loop-year-preserved c =
     let until : c.loop-year.year ≤ c.args.reference = c.loop-year.invariant.until in
     let reached = before_reached c.args.values.now c.args.volumes.now c.args.reference c.loop-year.year (c.loop-year.year - 1) c.loop-year.point c.previous_point-point.result (omega arith) (omega arith) c.loop-year.invariant.reached
-        (c.previous_point-point.ensures.point ∙ ap (step_backward c.loop-year.point) c.link_to_next.ensures.link) in
+    (c.previous_point-point.ensures.point ∙ ap (step_backward c.loop-year.point) c.link_to_next.ensures.link) in
     record {
       written = before_written c.args.values.now c.args.volumes.now c.loop-year.out c.args.reference c.loop-year.year (c.loop-year.year - 1) c.previous_point-point.result (omega arith) (omega arith) (omega arith) reached c.loop-year.invariant.written;
       reached = reached;
