@@ -1,11 +1,11 @@
 -- Why a level is within its drift of the exact chained volume: one step along a link keeps it so, and so do all steps from the reference year.
-use Rattle.std.proofs.Common.{◌≡◌, ℕ, zero, suc, ◌+◌, ◌-◌, ◌^◌, ◌<◌, ◌≤◌, ℤ, pos, ◌+ℤ◌, ◌-ℤ◌, ◌*ℤ◌, ◌<ℤ◌, ◌≤ℤ◌, Bool, true, false, if◌then◌else◌, List, [], ◌∷◌, arith, ap, sym, ◌∙◌, refl, int_le, nat_lt}
+use Rattle.std.proofs.Common.{◌≡◌, ℕ, zero, suc, ◌+◌, ◌-◌, ◌^◌, ◌<◌, ◌≤◌, ℤ, pos, ◌+ℤ◌, ◌*ℤ◌, ◌<ℤ◌, ◌≤ℤ◌, Bool, true, false, if◌then◌else◌, List, [], ◌∷◌, arith, ap, sym, ◌∙◌, refl, int_le, nat_lt}
 use Rattle.std.specs.Prelude.{◌&&◌, ◌||◌}
 use Rattle.ratio_arith.specs.Division.{round_of, ceil_of}
 use Rattle.ratio_arith.specs.Nearness.{IsNear}
 use Rattle.ratio_arith.proofs.Linear.{linear, literal_product}
 use Rattle.ratio_arith.proofs.Floors.{round_is, ceil_is}
-use Rattle.ratio_arith.proofs.Near.{near_times, near_at, near_chain, near_wider}
+use Rattle.ratio_arith.proofs.Near.{near_times}
 use Rattle.ratio_arith.proofs.Order.{product_mono, product_strict}
 use Rattle.ratio_arith.proofs.Ring.{same_by_ring, var, num, ◌⊕◌, ◌⊗◌}
 use Rattle.price_base.specs.declared.Cell.{Cell}
@@ -15,7 +15,7 @@ use Rattle.annual_overlap.specs.declared.Point.{Point}
 use Rattle.annual_overlap.specs.declared.Point.TheVariants.{Known, Marked}
 use Rattle.annual_overlap.specs.declared.Ratio.TheVariants.{Of, Broken}
 use Rattle.annual_overlap.specs.Years.{number_or}
-use Rattle.annual_overlap.specs.Chain.{link_of, link_after, point_within, moved, step_forward, step_backward, reference_point, years_after, years_before, point_at}
+use Rattle.annual_overlap.specs.Chain.{link_of, moved, step_forward, step_backward, reference_point, years_after, years_before, point_at}
 use Rattle.annual_overlap.specs.Drift.{product_from, exact_num, exact_den}
 
 -- the product of two numbers above zero is above zero

@@ -1,15 +1,13 @@
 -- Steps of the loops over the levels.
-use Rattle.std.proofs.Common.{◌≡◌, ℕ, zero, suc, ◌+◌, ◌-◌, ◌^◌, ◌*◌, ◌<◌, ◌≤◌, ◌≢◌, ℤ, pos, Bool, true, false, if◌then◌else◌, List, [], ◌∷◌, length, get_or, set, map, arith, ap, sym, ◌∙◌, refl, subst, nat_lt, get_or-set_other, get_or-set_same, ◌⊎◌, inl, inr, ◌==◌}
+use Rattle.std.proofs.Common.{◌≡◌, ℕ, zero, suc, ◌+◌, ◌-◌, ◌<◌, ◌≤◌, ◌≢◌, Bool, true, false, if◌then◌else◌, List, length, get_or, set, arith, ap, sym, ◌∙◌, refl, subst, nat_lt, get_or-set_other, get_or-set_same, ◌⊎◌, inl, inr, ◌==◌}
 use Rattle.std.proofs.lemmas.List.{get_or_past}
-use Rattle.std.proofs.lemmas.List.FromFn.{fill_by_all, length-map-range_with_len, get_or-map-range_with_len}
+use Rattle.std.proofs.lemmas.List.FromFn.{fill_by_all}
 use Rattle.price_base.specs.declared.Cell.{Cell}
-use Rattle.price_base.specs.declared.Cell.TheVariants.{Missing, Value, NoBase, NoLink, Range}
+use Rattle.price_base.specs.declared.Cell.TheVariants.{Missing}
 use Rattle.price_base.specs.Cells.{cell_at}
 use Rattle.annual_overlap.specs.declared.Point.{Point}
-use Rattle.annual_overlap.specs.declared.Point.TheVariants.{Known, Marked}
-use Rattle.annual_overlap.specs.declared.Ratio.{Ratio}
+use Rattle.annual_overlap.specs.declared.Point.TheVariants.{Marked}
 use Rattle.annual_overlap.specs.Chain.{link_after, step_forward, step_backward, reference_point, years_after, years_before, point_at, points_of}
-use Rattle.annual_overlap.specs.Sizes.{IsSmallPoint}
 
 -- what holds at each index holds once a place is written with what it holds of
 pub each_set : {X : Type 0} (P : X → Type 0) (xs : List X) (i : ℕ) (v d : X) → i < length xs → ((k : ℕ) → P (get_or xs k d)) → P v → (k : ℕ) → P (get_or (set xs i v) k d)

@@ -1,7 +1,7 @@
 -- The sizes of products of levels and of their quotients, and that the code holds them.
-use Rattle.std.proofs.Common.{◌≡◌, ℕ, ◌*◌, ◌^◌, ◌≤◌, ℤ, pos, ◌+ℤ◌, ◌*ℤ◌, ◌<ℤ◌, ◌≤ℤ◌, unsigned_abs, [], ◌∷◌, arith, refl, ap, ◌∙◌, FitsSigned, to_z, of_z}
+use Rattle.std.proofs.Common.{◌≡◌, ◌*◌, ◌^◌, ◌≤◌, ℤ, pos, ◌+ℤ◌, ◌*ℤ◌, ◌<ℤ◌, ◌≤ℤ◌, unsigned_abs, [], ◌∷◌, arith, refl, ap, ◌∙◌, FitsSigned, to_z, of_z}
 use Rattle.std.specs.Prelude.{neg_ℤ}
-use Rattle.std.proofs.lemmas.Int.{ints, by_lt_z, to_z-of_z, fits_signed_from_abs}
+use Rattle.std.proofs.lemmas.Int.{by_lt_z, to_z-of_z, fits_signed_from_abs}
 use Rattle.std.specs.Int.{w128}
 use Rattle.ratio_arith.specs.Division.{floor_of, round_of, ceil_of}
 use Rattle.ratio_arith.proofs.Linear.{linear, literal_product}

@@ -1,11 +1,11 @@
 -- The chain of an item's years by annual overlap, after chapter 8 of the IMF Quarterly National Accounts Manual (2017): the year's volume at
 -- previous-year prices over the value of the year before links the two years. Levels in ten-thousandths, rounded at each link, and the marks are
 -- this product's own.
-use Rattle.std.specs.Prelude.{ℕ, ◌+◌, ◌-◌, ◌^◌, zero, suc, nat_lt, ℤ, pos, ◌+ℤ◌, ◌*ℤ◌, int_le, Bool, ◌&&◌, ◌||◌, if◌then◌else◌, List, map, length}
+use Rattle.std.specs.Prelude.{ℕ, ◌+◌, ◌-◌, ◌^◌, zero, suc, nat_lt, ℤ, pos, ◌+ℤ◌, ◌*ℤ◌, int_le, ◌&&◌, ◌||◌, if◌then◌else◌, List, map, length}
 use Rattle.std.specs.List.{range_with_len}
 use Rattle.ratio_arith.specs.Division.{round_of, ceil_of}
 use Rattle.price_base.specs.declared.Cell.{Cell}
-use Rattle.price_base.specs.declared.Cell.TheVariants.{Missing, Value, NoBase, NoLink, Range}
+use Rattle.price_base.specs.declared.Cell.TheVariants.{Value, NoLink, Range}
 use Rattle.price_base.specs.Cells.{cell_at}
 use Rattle.annual_overlap.specs.declared.Ratio.{Ratio}
 use Rattle.annual_overlap.specs.declared.Ratio.TheVariants.{Of, Broken}

@@ -1,12 +1,12 @@
 -- The chained quarters of an item. A complete year shares its level out in proportion to the quarters' volumes; a quarter of another year is linked by
 -- the level over the value of the year before (chapter 8 of the IMF Quarterly National Accounts Manual, 2017; the share-out, ranges and marks are this
 -- product's own).
-use Rattle.std.specs.Prelude.{ℕ, ◌+◌, ◌*◌, ◌/◌, ◌%◌, ◌^◌, zero, suc, ℤ, pos, ◌*ℤ◌, int_le, nat_le, Bool, if◌then◌else◌, List, [], ◌∷◌, map, length, unsigned_abs}
+use Rattle.std.specs.Prelude.{ℕ, ◌/◌, ◌%◌, ◌^◌, zero, suc, ℤ, pos, ◌*ℤ◌, int_le, nat_le, if◌then◌else◌, List, map, length, unsigned_abs}
 use Rattle.std.specs.List.{range_with_len}
 use Rattle.ratio_arith.specs.Division.{round_of}
 use Rattle.sum_rounding.specs.ShareOut.{share_of}
 use Rattle.price_base.specs.declared.Cell.{Cell}
-use Rattle.price_base.specs.declared.Cell.TheVariants.{Missing, Value, NoBase, NoLink, Range}
+use Rattle.price_base.specs.declared.Cell.TheVariants.{Value, NoLink, Range}
 use Rattle.price_base.specs.Cells.{cell_at}
 use Rattle.annual_overlap.specs.declared.Ratio.{Ratio}
 use Rattle.annual_overlap.specs.declared.Ratio.TheVariants.{Of, Broken}

@@ -1,5 +1,5 @@
 -- The sizes that ratios and levels keep to.
-use Rattle.std.specs.Prelude.{◌≡◌, List, ◌^◌, ◌*◌, ◌≤◌, ℤ, pos, ◌<ℤ◌, ◌≤ℤ◌, unsigned_abs}
+use Rattle.std.specs.Prelude.{◌≡◌, List, ◌^◌, ◌*◌, ◌≤◌, pos, ◌<ℤ◌, ◌≤ℤ◌, unsigned_abs}
 use Rattle.price_base.specs.declared.Cell.{Cell}
 use Rattle.price_base.specs.declared.Cell.TheVariants.{Missing, Value, NoBase, NoLink, Range}
 use Rattle.price_base.specs.Cells.{total}

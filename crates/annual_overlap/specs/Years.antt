@@ -1,5 +1,5 @@
 -- Figures of the years of an item, each from the four quarters of the year.
-use Rattle.std.specs.Prelude.{ℕ, ◌+◌, ◌*◌, ◌/◌, ◌<◌, ◌≤◌, ◌^◌, ℤ, pos, List, [], ◌∷◌, map, length, unsigned_abs}
+use Rattle.std.specs.Prelude.{ℕ, ◌+◌, ◌*◌, ◌/◌, ◌≤◌, ℤ, List, [], ◌∷◌, map, length, unsigned_abs}
 use Rattle.std.specs.List.{range_with_len}
 use Rattle.price_base.specs.declared.Cell.{Cell}
 use Rattle.price_base.specs.declared.Cell.TheVariants.{Missing, Value, NoBase, NoLink, Range}

@@ -1,7 +1,6 @@
-use Rattle.std.proofs.Common.{◌≡◌, List, map, ap, ◌∙◌, sym}
+use Rattle.std.proofs.Common.{◌≡◌, List, map, ap, ◌∙◌}
 use Rattle.price_base.specs.declared.Cell.{Cell}
 use Rattle.annual_overlap.specs.declared.Point.{Point}
-use Rattle.annual_overlap.specs.declared.ChainTable.{ChainTable}
 use Rattle.annual_overlap.specs.Years.{years_of}
 use Rattle.annual_overlap.specs.Chain.{points_of, level_cell, drift_cell}
 use Rattle.annual_overlap.specs.Quarters.{chained_of}

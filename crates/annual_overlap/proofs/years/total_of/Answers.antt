@@ -1,5 +1,4 @@
 use Rattle.std.proofs.Common.{arith}
-use Rattle.std.proofs.lemmas.Int.{ints}
 use Rattle.annual_overlap.proofs.Products.{kept}
 use Rattle.annual_overlap.proofs.YearSums.{total_kept}
 use Rattle.annual_overlap.proofs.years.total_of.Goals as goal
