@@ -5,7 +5,7 @@ ghost use Rattle.std.specs.Prelude.{◌≡◌, ◌<◌, ◌+◌, ℕ};
 
 use std::alloc::{AllocError, AllocFailed};
 use std::marker::Model;
-use std::sync::ledger::{Book, Ledger, Share};
+use std::sync::ledger::{Blank, Book, Ledger, Share};
 
 /// Want of memory: the one answer that no clause ties to a cause. It is merged with no other fault.
 #[derive(Clone, Copy, Debug, PartialEq, Eq, Drop)]
@@ -40,6 +40,17 @@ impl<L: Ledger> Model for Steps<L> {
 }
 
 impl<L: Ledger> Steps<L> {
+    /// A counter that has counted no step yet. A caller makes the blank with one part or more, and picks its ledger as `L`.
+    pub fn open(blank: Blank) -> Steps<L>
+        requires name { blank.name ≡ L.name }
+        requires parts { blank.parts ≡ L.parts }
+        requires some { 0 < blank.parts }
+        ensures { result ≡ 0 }
+    {
+        let (book, share) = blank.open::<L>();
+        Steps { book, share }
+    }
+
     /// Counts one step.
     pub fn tick(&mut self)
         ensures { self.new ≡ self.old + 1 }
