@@ -1,5 +1,7 @@
 pub mod EndRatios
 pub mod Machine
+pub mod Reach
+pub mod SameYears
 pub mod Scales
 pub mod Sizes
 pub mod Worked

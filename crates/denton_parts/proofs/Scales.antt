@@ -52,3 +52,17 @@ greatest_bounds (suc k) test other within e = by (test (suc k)) refl (λ h. grea
     by : (t : Bool) → test (suc k) ≡ t → (other ≤ k → other ≤ greatest_up_to k test) → other ≤ cond t (suc k) (greatest_up_to k test)
     by true same rest = within
     by false same rest = rest (smaller same)
+
+-- every year fits the scale 10
+all_fit_ten : (years : List YearPart) → list_all (fits_scale 1) years ≡ true
+all_fit_ten [] = refl
+all_fit_ten (year ∷ years) =
+    let are = year.indicators in
+    let some = are.first.0 in
+    let bench = year.benchmark in
+    let here : fits_scale 1 year ≡ true = grind arith in
+    rw here (all_fit_ten years)
+
+-- so the scale of years is 1 at least
+pub scale_least : (years : List YearPart) → 1 ≤ greatest_up_to 15 (λ k. list_all (fits_scale k) years)
+scale_least years = greatest_bounds 15 (λ k. list_all (fits_scale k) years) 1 (omega arith) (all_fit_ten years)

@@ -1,10 +1,10 @@
 -- How large the numbers of one year are.
-use Rattle.std.specs.Prelude.{◌≡◌, ℕ, ◌*◌, ◌^◌, ◌≤◌, ◌<◌, List, slice_index, ℤ, pos, ◌+ℤ◌, ◌-ℤ◌, ◌*ℤ◌, neg_ℤ, ◌≤ℤ◌, ◌<ℤ◌, [], ◌∷◌, unsigned_abs}
+use Rattle.std.specs.Prelude.{◌≡◌, ℕ, ◌*◌, ◌^◌, ◌≤◌, ◌<◌, List, slice_index, ℤ, pos, negsuc, ◌+ℤ◌, ◌-ℤ◌, ◌*ℤ◌, neg_ℤ, ◌≤ℤ◌, ◌<ℤ◌, [], ◌∷◌, unsigned_abs}
 use Rattle.std.proofs.Common.{refl, ◌∙◌, ap, arith, zero, suc, get_or}
 use Rattle.denton_parts.specs.Year.{AreIndicators, year_sum}
 use Rattle.denton_parts.specs.Level.{rises, weighed_rises, level_of}
 use Rattle.std.proofs.lemmas.Int.{ints, unsigned_abs-mul}
-use Rattle.std.proofs.Math.Nat.{mul-le-mul, mul-le-mul_right}
+use Rattle.std.proofs.Math.Nat.{mul-le-mul, mul-le-mul_right, pow-le-pow_right, one-le-pow}
 use Rattle.ratio_arith.specs.Division.{ceil_of, IsFloor}
 use Rattle.ratio_arith.proofs.Floors.{floor_size, ceil_from_bounds}
 use Rattle.ratio_arith.proofs.Linear.{linear}
@@ -85,3 +85,15 @@ level_is indicators bench k left right j sum base weighed raised result found e_
     let parts : weighed ≡ weighed_rises indicators left right = e_weighed ∙ ap (λ (u : List ℤ). pos (slice_index indicators 1) *ℤ get_or u 1 (pos 0) +ℤ pos (slice_index indicators 2) *ℤ get_or u 2 (pos 0) +ℤ pos (slice_index indicators 3) *ℤ get_or u 3 (pos 0)) e_found in
     let lift : sum *ℤ get_or found j (pos 0) ≡ pos (year_sum indicators) *ℤ get_or (rises indicators left right) j (pos 0) = ap (λ u. u *ℤ get_or found j (pos 0)) e_sum ∙ ap (λ (u : List ℤ). pos (year_sum indicators) *ℤ get_or u j (pos 0)) e_found in
     omega (arith, linear)
+
+-- a power of ten times a sum from 1 to 4 * 10^9
+pub scaled_sum_sizes : (k : ℕ) (sum : ℤ) → k ≤ 15 → pos 1 ≤ℤ sum → sum ≤ℤ pos (4 * 10 ^ 9) → (pos 0 <ℤ (pos (10 ^ k) *ℤ sum)) × ((pos (10 ^ k) *ℤ sum) ≤ℤ pos (4 * 10 ^ 24))
+scaled_sum_sizes k (pos sum) small some most =
+    let unit : 10 ^ k ≤ 10 ^ 15 = pow-le-pow_right (omega arith) small in
+    let least : 1 ≤ 10 ^ k = one-le-pow k 10 (omega arith) in
+    let some' : 1 ≤ sum = omega (arith, linear) in
+    let most' : sum ≤ 4 * 10 ^ 9 = omega (arith, linear) in
+    let product : 10 ^ k * sum ≤ 10 ^ 15 * (4 * 10 ^ 9) = mul-le-mul unit most' in
+    let positive : 1 * 1 ≤ 10 ^ k * sum = mul-le-mul least some' in
+    (omega (arith, linear), omega (arith, linear))
+scaled_sum_sizes k (negsuc sum) small some most = absurd (omega (arith, linear))

@@ -5,3 +5,4 @@ pub mod Level
 pub mod Ratios
 pub mod Scale
 pub mod Year
+pub mod Years

@@ -1,6 +1,6 @@
 //! The scaled levels of a year's ratio.
 
-ghost use Rattle.std.specs.Prelude.{◌≡◌, ◌≤◌, ◌<◌, ◌+◌, ◌*◌, ◌^◌, pos, ◌+ℤ◌, ◌-ℤ◌, ◌*ℤ◌, length, slice_index, slice_index_or, unsigned_abs};
+ghost use Rattle.std.specs.Prelude.{◌≡◌, ◌≤◌, ◌<◌, ◌+◌, ◌*◌, ◌^◌, pos, ◌+ℤ◌, ◌-ℤ◌, ◌*ℤ◌, ◌≤ℤ◌, ◌<ℤ◌, length, slice_index, slice_index_or, unsigned_abs};
 ghost use Rattle.denton_parts.specs.Level.{level_of, rises, weighed_rises};
 ghost use Rattle.denton_parts.specs.Year.{IsIndicator, IsMultiplier, year_sum};
 
@@ -33,6 +33,29 @@ pub fn level(part: &YearPart, scale: u8, left: i128, right: i128, j: usize) -> i
         rises[3],
     );
     raised(base, weighed, part.sum, rises[j])
+}
+
+/// What the levels of the year are counted in: 10^scale times the year's indicator sum. A level over it is the quarter's benchmark-to-indicator ratio.
+pub fn level_unit(part: &YearPart, scale: u8) -> i128
+    requires scale { scale ≤ 15 }
+    ensures value { result ≡ pos (10 ^ scale) *ℤ pos (year_sum part.now.ind) }
+    ensures positive { pos 0 <ℤ result }
+    ensures most { result ≤ℤ pos (10 ^ 37) }
+{
+    scaled_sum(scale, part.sum)
+}
+
+// A sum of indicators times 10^scale.
+fn scaled_sum(scale: u8, sum: i128) -> i128
+    requires scale { scale ≤ 15 }
+    requires some { pos 1 ≤ℤ sum }
+    requires most { sum ≤ℤ pos (4 * 10 ^ 9) }
+    ensures value { result ≡ pos (10 ^ scale) *ℤ sum }
+    ensures positive { pos 0 <ℤ result }
+    ensures most { result ≤ℤ pos (10 ^ 37) }
+{
+    let unit = i128::from(10_u64.pow(u32::from(scale)));
+    unit * sum
 }
 
 // How far each quarter's ratio stands above that of the year's first.

@@ -2,10 +2,11 @@
 use Rattle.std.specs.Prelude.{◌≡◌, ℕ, ◌+◌, ◌-◌, ◌*◌, ◌^◌, ◌≤◌, ◌<◌, ℤ, pos, List, length, replicate, unsigned_abs}
 use Rattle.std.proofs.Common.{◌∙◌, ap, arith, zero, suc, get_or}
 use Rattle.std.proofs.Math.Nat.{mul-le-mul_right}
+use Rattle.std.proofs.lemmas.List.{length-replicate}
 use Rattle.denton_parts.specs.declared.year.YearPart.{YearPart}
 use Rattle.denton_solve.specs.Conditions.{AreMultipliers}
 use Rattle.denton_solve.specs.Sweeps.{sweep_of, iterated, multipliers_of, no_multipliers}
-use Rattle.denton_solve.proofs.Steps.{settled}
+use Rattle.denton_solve.proofs.Steps.{settled, iterated-count}
 
 -- a row of zeros is no multiplier at any joint
 pub zeros_at : (years : List YearPart) (u row : List ℤ) → length row + 1 ≡ length years → u ≡ replicate (length row) (pos 0) → u ≡ no_multipliers years
@@ -41,3 +42,11 @@ steps_second start now pairs joints h = grind arith
 -- no more than 96 pairs
 pub steps_all : (start now pairs joints : ℕ) → pairs ≤ 96 → now ≤ start + 2 * (pairs * joints) → now ≤ start + 192 * joints
 steps_all start now pairs joints few h = let most = mul-le-mul_right joints few in omega arith
+
+-- there is one multiplier fewer than years
+pub multipliers_count : (k : ℕ) (years : List YearPart) → 1 ≤ length years → length (multipliers_of k years) + 1 ≡ length years
+unfolding multipliers_of
+multipliers_count k years some =
+    let zeros : length (no_multipliers years) ≡ length years - 1 = length-replicate (length years - 1) (pos 0) in
+    let same = iterated-count k years 192 (no_multipliers years) (omega arith) in
+    omega arith

@@ -25,6 +25,26 @@ unfolding sweep_of
 sweep_of-sizes k [] multipliers y inside = absurd (omega arith)
 sweep_of-sizes k (year ∷ years) multipliers y inside = sweep_from-sizes k (pos 0) year years multipliers y inside
 
+sweep_from-count : (k : ℕ) (before : ℤ) (year : YearPart) (years : List YearPart) (multipliers : List ℤ) → length multipliers ≤ length years → length (sweep_from k before year years multipliers) ≡ length multipliers
+sweep_from-count k before year [] [] room = refl
+sweep_from-count k before year [] (own ∷ multipliers) room = absurd (omega arith)
+sweep_from-count k before year (next ∷ years) [] room = refl
+sweep_from-count k before year (next ∷ years) (own ∷ multipliers) room = let more = sweep_from-count k own next years multipliers (omega arith) in omega arith
+
+-- a sweep leaves as many multipliers as there were
+pub sweep_of-count : (k : ℕ) (years : List YearPart) (multipliers : List ℤ) → length multipliers < length years → length (sweep_of k years multipliers) ≡ length multipliers
+unfolding sweep_of
+sweep_of-count k [] multipliers room = absurd (omega arith)
+sweep_of-count k (year ∷ years) multipliers room = sweep_from-count k (pos 0) year years multipliers (omega arith)
+
+-- so do several
+pub iterated-count : (k : ℕ) (years : List YearPart) (n : ℕ) (multipliers : List ℤ) → length multipliers < length years → length (iterated n (sweep_of k years) multipliers) ≡ length multipliers
+unfolding iterated
+iterated-count k years zero multipliers room = refl
+iterated-count k years (suc n) multipliers room =
+    let before = iterated-count k years n multipliers room in
+    sweep_of-count k years (iterated n (sweep_of k years) multipliers) (omega arith) ∙ before
+
 -- a sweep begins before the first year
 pub sweep_of-is : (k : ℕ) (years : List YearPart) (multipliers : List ℤ) → sweep_after k (pos 0) years multipliers ≡ sweep_of k years multipliers
 unfolding sweep_of

@@ -1,8 +1,9 @@
-//! The solver of proportional benchmarking: the multipliers between the benchmarked years of one leaf (IMF Quarterly National Accounts Manual 2017,
+//! The solver of proportional benchmarking: the multipliers between the benchmarked years of one leaf, and the series that they give (IMF Quarterly National Accounts Manual 2017,
 //! chapter 6; the sweeps are this product's own).
 #![tactic(auto)]
 
 mod joint;
+mod quarters;
 mod sweep;
 
 ghost use Rattle.std.specs.Prelude.{◌≡◌, ◌≤◌, ◌+◌, ◌*◌, ◌-◌, length};
@@ -13,6 +14,7 @@ ghost use Rattle.denton_solve.specs.Sweeps.{multipliers_of};
 use denton_parts::YearPart;
 use joint::weights_of;
 use qna_base::Steps;
+pub use quarters::series;
 use std::sync::ledger::Ledger;
 use sweep::sweep;
 
@@ -47,3 +49,6 @@ pub fn solve<L: Ledger>(
         }
     }
 }
+
+#[cfg(test)]
+mod tests;

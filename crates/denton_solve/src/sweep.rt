@@ -67,8 +67,8 @@ fn kept(same: bool, after: i128, before: i128) -> bool
     same && after == before
 }
 
-// The multiplier at a joint, 0 past the last.
-fn multiplier_at(u: &[i128], y: usize) -> i128
+/// The multiplier at a joint, 0 past the last.
+pub fn multiplier_at(u: &[i128], y: usize) -> i128
     requires sizes { AreMultipliers u.now }
     ensures value { result ≡ first_of (drop y u.now) }
     ensures size { IsMultiplier result }
