@@ -1,7 +1,7 @@
 //! Quarters and years of accounts: places counted from a plan's start year, read from their texts and written back.
 #![tactic(auto)]
 
-ghost use Rattle.std.specs.Prelude.{◌≡◌, ◌≤◌, ◌<◌, ◌+◌, ◌-◌, ◌↔◌, ◌++◌, [], ◌∷◌, ℕ, false, if◌then◌else◌, IsSomeAnd, OnOk, OnErr};
+ghost use Rattle.std.specs.Prelude.{◌≡◌, ◌≤◌, ◌<◌, ◌+◌, ◌-◌, ◌↔◌, ◌++◌, [], ◌∷◌, ℕ, false, if◌then◌else◌, IfSome, IsSomeAnd, OnOk, OnErr};
 ghost use Rattle.period_keys.specs.Period.{Named, year_of, number_of, quarter_of, is_within, year_from, quarter_from, year_text, quarter_text, year_at, quarter_at};
 
 use qna_base::Memory;
@@ -63,13 +63,20 @@ pub fn read_year(field: &[u8], start: u16) -> Result<Year, PeriodFault>
     ensures form { (result ≡ Err PeriodFault.Form) ↔ (year_of field.now ≡ None) }
     ensures range { (result ≡ Err PeriodFault.Range) ↔ IsSomeAnd (year_of field.now) (λ y. is_within start y ≡ false) }
 {
-    let year = match *field {
-        [a, b, c, d] => year_number(a, b, c, d),
-        _ => None,
-    };
-    match year {
+    match calendar_year(field) {
         Some(year) => Ok(Year(years_from(year, start)?)),
         None => Err(PeriodFault::Form),
+    }
+}
+
+/// The calendar year that four digits spell, or none where the text isn't four digits.
+pub fn calendar_year(field: &[u8]) -> Option<u16>
+    ensures year { result ≡ year_of field.now }
+    ensures size { IfSome result (λ year. year < 10000) }
+{
+    match *field {
+        [a, b, c, d] => year_number(a, b, c, d),
+        _ => None,
     }
 }
 
@@ -109,7 +116,8 @@ pub fn written_is_read()
 
 /// The number that four digits spell, where they are digits.
 fn year_number(a: u8, b: u8, c: u8, d: u8) -> Option<u16>
-    ensures { result ≡ year_of (a ∷ b ∷ c ∷ d ∷ []) }
+    ensures year { result ≡ year_of (a ∷ b ∷ c ∷ d ∷ []) }
+    ensures size { IfSome result (λ year. year < 10000) }
 {
     if a.is_ascii_digit() && b.is_ascii_digit() && c.is_ascii_digit() && d.is_ascii_digit() {
         Some(
@@ -181,6 +189,9 @@ mod tests {
         for (text, want) in years {
             assert_eq!(rt; read_year(text, 2021), want, "{text:?}");
         }
+        assert_eq!(rt; calendar_year(b"0007"), Some(7));
+        assert_eq!(rt; calendar_year(b"9999"), Some(9999));
+        assert_eq!(rt; calendar_year(b"21"), None);
         let quarters: [(&[u8], Result<Quarter, PeriodFault>); 12] = [
             (b"2021Q1", Ok(Quarter(0))),
             (b"2021-q4", Ok(Quarter(3))),

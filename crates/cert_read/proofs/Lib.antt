@@ -1,0 +1,9 @@
+pub mod Records
+pub mod Ranges
+pub mod Outcomes
+pub mod Documents
+pub mod Runs
+pub mod Wholes
+pub mod Spelled
+pub mod Cuts
+pub mod Stands

@@ -1,0 +1,4 @@
+pub mod Statement
+pub mod Content
+pub mod Reading
+pub mod Cutting
