@@ -5,8 +5,8 @@ use Rattle.series_tables.specs.LastValue.{periods_of, least_of, most_of}
 use Rattle.series_tables.specs.declared.input.Input.{Input}
 use Rattle.series_tables.specs.declared.input.Kind.{Kind}
 use Rattle.series_tables.specs.declared.input.Kind.TheVariants.{Indicator, Benchmark, Price}
-use Rattle.input_rules.specs.declared.Refusal.{Refusal}
-use Rattle.input_rules.specs.declared.Refusal.TheVariants.{Unknown, Zero, Range}
+use Rattle.input_rules.specs.declared.judging.Refusal.{Refusal}
+use Rattle.input_rules.specs.declared.judging.Refusal.TheVariants.{Unknown, Zero, Range}
 
 -- whether a value is 0
 abbrev pub is_zero : ℤ → Bool

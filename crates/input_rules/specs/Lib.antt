@@ -1,1 +1,5 @@
 pub mod Judgement
+pub mod Requests
+pub mod Views
+pub mod Lines
+pub mod Accepted

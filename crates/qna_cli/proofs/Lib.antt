@@ -1,5 +1,6 @@
-pub mod Inputs
-pub mod Years
 pub mod Parts
 pub mod Ends
-pub mod Meets
+pub mod Certified
+pub mod Verdicts
+pub mod CheckEnds
+pub mod Branches

@@ -1,6 +1,5 @@
-pub mod Inputs
-pub mod Values
 pub mod Release
 pub mod Command
 pub mod BatchEnd
-pub mod Meets
+pub mod Check
+pub mod CheckEnd

@@ -2,18 +2,20 @@
 #![tactic(auto)]
 
 mod batch;
+mod check;
 mod command;
-mod input_lines;
-mod read;
 mod release;
 
-pub use command::{benchmarks_are_met, run, run_batch};
+pub use check::run_check;
+pub use command::{releases_are_certified, run, run_batch};
 use qna_base::Memory;
 use qna_edges::{FileCabinet, OpenGate, Status, StdoutSink};
 use std::alloc::Global;
 use std::process::ExitCode;
 use std::{env, io};
 
+#[cfg(test)]
+mod check_tests;
 #[cfg(test)]
 mod tests;
 

@@ -1,5 +1,9 @@
-pub mod Cuts
-pub mod Fields
+pub mod Entries
+pub mod Gathering
+pub mod Outcomes
+pub mod Parents
+pub mod Waiting
+mod Worked
 pub mod Names
 pub mod Places
 pub mod Rows

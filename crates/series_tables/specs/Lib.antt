@@ -1,6 +1,9 @@
-pub mod Text
+pub mod PlanLine
 pub mod Plan
+pub mod PlanError
+pub mod PlanReading
+pub mod Items
+pub mod PlanEntries
 pub mod LastValue
 pub mod Cells
-pub mod PlanError
 pub mod Ranges

@@ -5,21 +5,18 @@ pub returns-clause-end : goal.returns-clause-end
 returns-clause-end g c = record {
   done = c.batch_by_clauses.ensures.done;
   told = c.batch_by_clauses.ensures.told;
-  input_ended = c.batch_by_clauses.ensures.input_ended;
-  created = c.batch_by_clauses.ensures.created;
-  output_part = c.batch_by_clauses.ensures.output;
-  report_part = c.batch_by_clauses.ensures.reported;
-  other_files = c.batch_by_clauses.ensures.files;
-  unreported = c.batch_by_clauses.ensures.unreported;
-  uncreated = c.batch_by_clauses.ensures.uncreated;
-  silent = c.batch_by_clauses.ensures.silent;
-  plan_fault = c.batch_by_clauses.ensures.plan_fault;
-  open_fault = c.batch_by_clauses.ensures.open_fault;
-  read_fault = c.batch_by_clauses.ensures.read_fault;
-  write_fault = c.batch_by_clauses.ensures.write_fault;
-  too_much = c.batch_by_clauses.ensures.too_much;
   spelled = c.batch_by_clauses.ensures.spelled;
-  input_within = c.batch_by_clauses.ensures.within;
+  read_whole = c.batch_by_clauses.ensures.read_whole;
+  output_part = c.batch_by_clauses.ensures.output;
+  other_files = c.batch_by_clauses.ensures.files;
+  memory = c.batch_by_clauses.ensures.memory;
+  plan_fault = c.batch_by_clauses.ensures.plan_fault;
+  no_plan = c.batch_by_clauses.ensures.no_plan;
+  open_fault = c.batch_by_clauses.ensures.open_fault;
+  uncreated = c.batch_by_clauses.ensures.uncreated;
+  read_fault = c.batch_by_clauses.ensures.read_fault;
+  too_much = c.batch_by_clauses.ensures.too_much;
+  write_fault = λ is. (c.batch_by_clauses.ensures.write_spelled is, c.batch_by_clauses.ensures.write_fault is);
   ends = c.batch_by_clauses.ensures.ends;
 }
 

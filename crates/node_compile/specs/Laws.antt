@@ -1,0 +1,27 @@
+-- What a leaf's table is worth, in the words of the manual's chapter 6: its values meet the benchmarks, and no other series that meets them is better by more than its gap.
+use Rattle.std.specs.Prelude.{◌^◌, ℤ, pos, List, map, IfSome}
+use Rattle.denton_parts.specs.Benchmarks.{MeetsBenchmarks}
+use Rattle.denton_parts.specs.Ratios.{IsWithinGap}
+use Rattle.price_base.specs.declared.Cell.{Cell}
+use Rattle.price_base.specs.declared.Cell.TheVariants.{Missing, Value, NoBase, NoLink, Range}
+use Rattle.node_compile.specs.Table.{Table}
+
+-- the number in a cell. A mark has none, and 0 stands for it; a leaf with a certificate has no mark among its values
+abbrev pub number_in : Cell → ℤ
+number_in (Value number) = number
+number_in Missing = pos 0
+number_in NoBase = pos 0
+number_in NoLink = pos 0
+number_in Range = pos 0
+
+-- the numbers in cells
+abbrev pub numbers_in : List Cell → List ℤ
+numbers_in cells = map number_in cells
+
+-- in each benchmarked year of the table's certificate the four values add up to the benchmark
+abbrev pub MeetsItsBenchmarks : Table → Type 0
+MeetsItsBenchmarks table = IfSome table.leaf (λ certificate. MeetsBenchmarks certificate.benchmarks (pos 1) (numbers_in table.value))
+
+-- no series of fractions that meets these benchmarks has a sum of squared ratio changes smaller than that of the values by more than the certificate's gap over 10^(2 * scale)
+abbrev pub IsWithinItsGap : Table → Type 0
+IsWithinItsGap table = IfSome table.leaf (λ certificate. IsWithinGap certificate.indicators certificate.benchmarks (numbers_in table.value) certificate.gap (pos (10 ^ certificate.scale)))

@@ -1,0 +1,5 @@
+pub mod Laws
+pub mod Leaf
+pub mod Release
+pub mod Shape
+pub mod Table

@@ -1,0 +1,246 @@
+//! The table of one leaf.
+
+ghost use Rattle.std.specs.Prelude.{◌≡◌, ◌≤◌, ◌<◌, ◌+◌, ◌-◌, ◌*◌, ◌^◌, pos, map, length, drop, ◌++◌, IfOk, EachIndex, All, slice_index, slice_index_or, ◌∷◌};
+ghost use Rattle.denton_parts.specs.Scale.{scale_of_years};
+ghost use Rattle.denton_parts.specs.Year.{IsIndicator, IsBenchmark, IsMultiplier};
+ghost use Rattle.denton_parts.specs.Years.{year_of, years_of, indicators_of};
+ghost use Rattle.denton_solve.specs.Conditions.{AreMultipliers};
+ghost use Rattle.denton_solve.specs.Sweeps.{multipliers_of};
+ghost use Rattle.dual_cert.specs.Document.{AreQuarters};
+ghost use Rattle.dual_cert.specs.Parts.{BeginsWithYears};
+ghost use Rattle.price_base.specs.declared.Cell.TheVariants.{Value};
+ghost use Rattle.series_tables.specs.Ranges.{IsBenchmarkOrNone};
+ghost use Rattle.node_compile.specs.Laws.{MeetsItsBenchmarks, IsWithinItsGap};
+ghost use Rattle.node_compile.specs.Leaf.{benchmark_run, run_values, missing, missing_table as missing_table_of, table_of_years, leaf_table};
+ghost use Rattle.node_compile.specs.Table.{table_in};
+
+use crate::table::{LeafPart, NodeTable};
+use denton_parts::{YearPart, scale_of};
+use denton_solve::{series, solve};
+use dual_cert::{Cert, gap_of};
+use extrapolate::carry;
+use period_keys::Year;
+use price_base::{Cell, Cells, NodeFlows};
+use qna_base::{Memory, Steps};
+use series_tables::LeafInput;
+use std::alloc::Global;
+use std::sync::ledger::Ledger;
+
+/// The table of a leaf. Its benchmarked years are those before the first year without a benchmark; their values are the benchmarked series, and the
+/// quarters past them carry its last ratio forward. Without a benchmarked year all values are missing. Prices aren't used yet, so all volumes are
+/// missing, and nothing is linked to the reference year. The values meet the benchmarks, and no series that meets them is better by more than the
+/// table's gap. A step is one joint of one sweep of the solver.
+pub fn compile_leaf<L: Ledger>(
+    alloc: Global,
+    input: &LeafInput,
+    reference: Year,
+    steps: &mut Steps<L>,
+) -> Result<NodeTable, Memory>
+    ensures table { IfOk result (λ table. table_in table ≡ leaf_table input.now.ind.items input.now.bench.items) }
+    ensures meets { IfOk result (λ table. MeetsItsBenchmarks (table_in table)) }
+    ensures within { IfOk result (λ table. IsWithinItsGap (table_in table)) }
+    ensures steps { steps.new ≤ steps.old + 192 * (length (benchmark_run input.now.bench.items) - 1) }
+{
+    let _ = reference;
+    let bench = benchmarks_of(alloc, &input.bench)?;
+    if bench.is_empty() {
+        return missing_table(alloc, input.ind.len());
+    }
+    let ind = Vec::from_slice(alloc, &input.ind)?;
+    benchmarked_table(alloc, ind, bench, steps)
+}
+
+// The benchmarks of the benchmarked years.
+fn benchmarks_of(alloc: Global, bench: &[Option<i64>]) -> Result<Vec<i64>, Memory>
+    requires range { All IsBenchmarkOrNone bench.now }
+    ensures run { IfOk result (λ run. run.items ≡ benchmark_run bench.now) }
+    ensures most { IfOk result (λ run. length run.items ≤ length bench.now) }
+    ensures range { IfOk result (λ run. EachIndex run.items (λ year. IsBenchmark (slice_index_or run.items year (pos 0)))) }
+{
+    let mut run = Vec::with_capacity(alloc, bench.len())?;
+    for benchmark in bench {
+        match benchmark {
+            Some(value) => run.push(*value)?,
+            None => return Ok(run),
+        }
+    }
+    Ok(run)
+}
+
+// The table of a leaf without a benchmarked year.
+fn missing_table(alloc: Global, quarters: usize) -> Result<NodeTable, Memory>
+    requires { quarters ≤ 256 }
+    ensures { IfOk result (λ table. table_in table ≡ missing_table_of quarters) }
+{
+    let value = vec![in alloc; Cell::Missing; quarters]?;
+    let prev = vec![in alloc; Cell::Missing; quarters]?;
+    Ok(NodeTable {
+        leaf: None,
+        flows: NodeFlows::new(Cells::from(value), Cells::from(prev)),
+    })
+}
+
+// The table of a leaf with benchmarked years.
+fn benchmarked_table<L: Ledger>(
+    alloc: Global,
+    ind: Vec<u32>,
+    bench: Vec<i64>,
+    steps: &mut Steps<L>,
+) -> Result<NodeTable, Memory>
+    requires some_year { 1 ≤ length bench.items }
+    requires whole_years { 4 * length bench.items ≤ length ind.items }
+    requires few { length ind.items ≤ 256 }
+    requires indicators { EachIndex ind.items (λ t. IsIndicator (slice_index ind.items t)) }
+    requires benchmarks { EachIndex bench.items (λ year. IsBenchmark (slice_index_or bench.items year (pos 0))) }
+    ensures table { IfOk result (λ table. table_in table ≡ table_of_years ind.items bench.items (years_of ind.items bench.items)) }
+    ensures steps { steps.new ≤ steps.old + 192 * (length bench.items - 1) }
+{
+    let parts = years_from(alloc, &ind, &bench)?;
+    let scale = scale_of(&parts);
+    let u = solved(alloc, &parts, scale, steps)?;
+    let values = values_of(alloc, &parts, scale, &u, &ind)?;
+    let gap = gap_of(&parts, scale, &u, &ind, &values);
+    let flows = flows_of(alloc, &values)?;
+    let cert = Cert { scale, u, gap };
+    Ok(NodeTable {
+        leaf: Some(LeafPart { ind, bench, cert }),
+        flows,
+    })
+}
+
+// The benchmarked years of a run of quarters.
+fn years_from(alloc: Global, ind: &[u32], bench: &[i64]) -> Result<Vec<YearPart>, Memory>
+    requires whole_years { 4 * length bench.now ≤ length ind.now }
+    requires few { length ind.now ≤ 256 }
+    requires indicators { EachIndex ind.now (λ t. IsIndicator (slice_index ind.now t)) }
+    requires benchmarks { EachIndex bench.now (λ year. IsBenchmark (slice_index_or bench.now year (pos 0))) }
+    ensures years { IfOk result (λ years. years.items ≡ years_of ind.now bench.now) }
+    ensures count { IfOk result (λ years. length years.items ≡ length bench.now) }
+    ensures begins { IfOk result (λ years. BeginsWithYears years.items ind.now) }
+    ensures indicators { IfOk result (λ years. indicators_of years.items ++ drop (4 * length years.items) ind.now ≡ ind.now) }
+{
+    let mut years = Vec::with_capacity(alloc, bench.len())?;
+    for year in 0..bench.len() {
+        years.push(year_at(ind, bench[year], 4 * year))?;
+    }
+    Ok(years)
+}
+
+// The year of the four quarters from one on.
+#[tactic(auto, using(crate::proofs::Runs::year_at_is))]
+fn year_at(ind: &[u32], benchmark: i64, first: usize) -> YearPart
+    requires inside { first + 4 ≤ length ind.now }
+    requires few { length ind.now ≤ 256 }
+    requires indicators { EachIndex ind.now (λ t. IsIndicator (slice_index ind.now t)) }
+    requires benchmark { IsBenchmark benchmark }
+    ensures { result ≡ year_of (slice_index ind.now first) (slice_index ind.now (first + 1)) (slice_index ind.now (first + 2)) (slice_index ind.now (first + 3)) benchmark }
+{
+    YearPart::of(
+        [ind[first], ind[first + 1], ind[first + 2], ind[first + 3]],
+        benchmark,
+    )
+}
+
+// The multipliers between the years, at their scale.
+fn solved<L: Ledger>(
+    alloc: Global,
+    parts: &[YearPart],
+    scale: u8,
+    steps: &mut Steps<L>,
+) -> Result<Vec<i128>, Memory>
+    requires some_year { 1 ≤ length parts.now }
+    requires most { length parts.now ≤ 128 }
+    requires scale { scale ≡ scale_of_years parts.now }
+    ensures multipliers { IfOk result (λ u. u.items ≡ multipliers_of scale parts.now) }
+    ensures sizes { IfOk result (λ u. AreMultipliers u.items) }
+    ensures joints { IfOk result (λ u. length u.items + 1 ≡ length parts.now) }
+    ensures steps { steps.new ≤ steps.old + 192 * (length parts.now - 1) }
+{
+    let joints = parts.len() - 1;
+    let mut u = vec![in alloc; 0; joints]?;
+    let mut spare = vec![in alloc; 0; joints]?;
+    solve(parts, scale, &mut u, &mut spare, steps);
+    Ok(u)
+}
+
+// The values of a run of quarters that begins with these years.
+fn values_of(
+    alloc: Global,
+    parts: &[YearPart],
+    scale: u8,
+    u: &[i128],
+    ind: &[u32],
+) -> Result<Vec<i128>, Memory>
+    requires some_year { 1 ≤ length parts.now }
+    requires most { length parts.now ≤ 128 }
+    requires scale { scale ≡ scale_of_years parts.now }
+    requires joints { length u.now + 1 ≡ length parts.now }
+    requires multipliers { AreMultipliers u.now }
+    requires whole_years { 4 * length parts.now ≤ length ind.now }
+    requires few { length ind.now ≤ 256 }
+    requires indicators { EachIndex ind.now (λ t. IsIndicator (slice_index ind.now t)) }
+    requires years { indicators_of parts.now ++ drop (4 * length parts.now) ind.now ≡ ind.now }
+    ensures values { IfOk result (λ values. values.items ≡ run_values scale parts.now u.now ind.now) }
+    ensures quarters { IfOk result (λ values. AreQuarters scale ind.now values.items) }
+{
+    let mut values = vec![in alloc; 0; ind.len()]?;
+    write_values(parts, scale, u, ind, &mut values);
+    Ok(values)
+}
+
+// Writes these values.
+fn write_values(parts: &[YearPart], scale: u8, u: &[i128], ind: &[u32], out: &mut [i128])
+    requires some_year { 1 ≤ length parts.now }
+    requires most { length parts.now ≤ 128 }
+    requires scale { scale ≡ scale_of_years parts.now }
+    requires joints { length u.now + 1 ≡ length parts.now }
+    requires multipliers { AreMultipliers u.now }
+    requires whole_years { 4 * length parts.now ≤ length ind.now }
+    requires few { length ind.now ≤ 256 }
+    requires indicators { EachIndex ind.now (λ t. IsIndicator (slice_index ind.now t)) }
+    requires years { indicators_of parts.now ++ drop (4 * length parts.now) ind.now ≡ ind.now }
+    requires room { length out.old ≡ length ind.now }
+    ensures values { out.new ≡ run_values scale parts.now u.now ind.now }
+    ensures quarters { AreQuarters scale ind.now out.new }
+{
+    let years = parts.len();
+    let (_, later) = ind.split_at(4 * years);
+    let (benchmarked, carried) = out.split_at_mut(4 * years);
+    series(parts, scale, u, benchmarked);
+    let left = multiplier_before_last(u);
+    carry(&parts[years - 1], scale, left, later, carried);
+}
+
+// The multiplier before the last year: none before an only year.
+fn multiplier_before_last(u: &[i128]) -> i128
+    requires sizes { AreMultipliers u.now }
+    ensures value { result ≡ slice_index_or (pos 0 ∷ u.now) (length u.now) (pos 0) }
+    ensures size { IsMultiplier result }
+{
+    match u.last() {
+        Some(multiplier) => *multiplier,
+        None => 0,
+    }
+}
+
+// Values as an item's flows, with no volume.
+fn flows_of(alloc: Global, values: &[i128]) -> Result<NodeFlows, Memory>
+    ensures value { IfOk result (λ flows. flows.value ≡ map Value values.now) }
+    ensures prev { IfOk result (λ flows. flows.prev ≡ missing (length values.now)) }
+{
+    let mut value = vec![in alloc; Cell::Missing; values.len()]?;
+    write_cells(values, &mut value);
+    let prev = vec![in alloc; Cell::Missing; values.len()]?;
+    Ok(NodeFlows::new(Cells::from(value), Cells::from(prev)))
+}
+
+// Writes values as cells.
+#[tactic(auto, using(crate::proofs::Runs::cells_more, crate::proofs::Runs::cells_all))]
+fn write_cells(values: &[i128], out: &mut [Cell])
+    requires room { length out.old ≡ length values.now }
+    ensures { out.new ≡ map Value values.now }
+{
+    for t in 0..values.len() {
+        out[t] = Cell::Value(values[t]);
+    }
+}

@@ -1,0 +1,30 @@
+//! One item's table.
+
+ghost use Rattle.std.specs.Prelude.{◌≤◌, length};
+ghost use Rattle.std.specs.Option.{ForSome};
+ghost use Rattle.node_compile.specs.Shape.{IsBenchmarked};
+
+use dual_cert::Cert;
+use price_base::NodeFlows;
+
+/// What stands behind the values of a leaf that has a benchmarked year.
+#[derive(Debug, Drop)]
+pub struct LeafPart {
+    /// the indicators of the run of quarters, each from 1 to 10^9
+    pub ind: Vec<u32>,
+    /// the benchmarks of the benchmarked years in whole currency units, each within 10^12
+    pub bench: Vec<i64>,
+    /// the scale, the multipliers between the benchmarked years, and the gap of the values
+    pub cert: Cert,
+}
+
+/// An item's table: its figures quarter by quarter, of at most 256 quarters, and what stands behind a leaf's values.
+#[derive(Debug, Drop)]
+pub struct NodeTable {
+    /// none for a leaf without a benchmarked year, all of whose values are then missing
+    pub leaf: Option<LeafPart>,
+    /// the values, and the volumes at previous-year prices, of the quarters from the start year's first on
+    pub flows: NodeFlows,
+    pub ghost few: { length flows.value ≤ 256 },
+    pub ghost benchmarked: { ForSome leaf (λ part. IsBenchmarked part.ind.items part.bench.items part.cert.u.items flows.value) },
+}

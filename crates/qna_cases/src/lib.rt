@@ -1,0 +1,17 @@
+//! Worked rows as tables: what the program is given and what it must leave.
+//!
+//! The values were computed by hand from the definitions, or come from published worked rows; none was taken from the program.
+//! Crates above read them in their tests.
+#![tactic(auto)]
+
+mod batch_rows;
+mod certificate_rows;
+mod line_rows;
+mod plan_rows;
+mod words_rows;
+
+pub use batch_rows::{BatchCase, FOOD_PLAN, batches};
+pub use certificate_rows::{CertificateCase, certificates};
+pub use line_rows::{LineCase, lines};
+pub use plan_rows::{PLAN_STATUS, PlanCase, plans};
+pub use words_rows::{WordsCase, words};

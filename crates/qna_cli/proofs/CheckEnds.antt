@@ -1,0 +1,21 @@
+-- How `check` ends where nothing fails.
+use Rattle.std.proofs.Common.{◌≡◌, ◌≤◌, ◌<◌, ◌+◌, ℕ, List, length, Option, Some, IfSome, inl, inr, refl, arith}
+use Rattle.qna_edges.specs.declared.status.Status.{Status}
+use Rattle.qna_edges.specs.declared.status.Status.TheVariants.{Done, Memory, Usage, PlanFault, OpenFault, ReadFault, WriteFault, CheckNo, TooMuch}
+use Rattle.qna_cli.specs.BatchEnd.{Shelves, Paper}
+use Rattle.qna_cli.specs.CheckEnd.{certificate_limit, IsCheckEnd, CheckCompletes}
+
+too_long : (file : Option (List ℕ)) (text : List ℕ) (left : ℕ) → file ≡ Some text → length text ≤ certificate_limit → IfSome file (λ text. certificate_limit + left < length text) → ⊥
+too_long file text left e few many = let more : certificate_limit + left < length text = rw e at many in omega arith
+
+-- where no count rose and the certificate is within the limit, an end of `check` is at a verdict or for want of memory
+pub check_completes : (old new : Shelves) (before after : Paper) (name : List ℕ) (status : Status) → IsCheckEnd old new before after name status → CheckCompletes old new before after name status
+check_completes old new before after name Done end text tells at few opened read told = inl refl
+check_completes old new before after name CheckNo end text tells at few opened read told = inr (inl refl)
+check_completes old new before after name Memory end text tells at few opened read told = inr (inr refl)
+check_completes old new before after name Usage end text tells at few opened read told = absurd (let no = end.ends in cc)
+check_completes old new before after name PlanFault end text tells at few opened read told = absurd (let no = end.ends in cc)
+check_completes old new before after name OpenFault end text tells at few opened read told = absurd (opened (end.open_fault refl))
+check_completes old new before after name ReadFault end text tells at few opened read told = absurd (read (end.read_fault refl))
+check_completes old new before after name WriteFault end text tells at few opened read told = absurd (told (end.write_fault refl))
+check_completes old new before after name TooMuch end text tells at few opened read told = absurd (too_long (old.file name) text (new.rest name) at few (end.too_much refl tells))

@@ -1,0 +1,62 @@
+-- The lines of numbers from a place on: where a part of the next line is written, a part of all lines is.
+use Rattle.std.proofs.Common.{◌≡◌, ℕ, ℤ, pos, ◌+◌, ◌<◌, ◌++◌, List, map, length, drop, get_or, ◌∷◌, Some, refl, arith}
+use Rattle.std.specs.List.{slice_get}
+use Rattle.std.proofs.lemmas.Option.{slice_get_within, get_or_from_slice_get}
+use Rattle.node_compile.specs.Table.{Table}
+use Rattle.price_base.specs.declared.Cell.{Cell}
+use Rattle.cert_read.specs.Statement.{indicator_line, benchmark_line, value_line, multiplier_line}
+use Rattle.cert_read.specs.Content.{quarter_from, quarterly, yearly}
+use Rattle.node_compile.specs.Laws.{number_in, numbers_in}
+use Rattle.release_print.specs.Part.{AppendsPart}
+use Rattle.release_print.specs.Release.{value_line as cell_line, value_lines as cell_lines, item_lines, items_lines}
+use Rattle.release_print.specs.Certificate.{statement_text, statements_text}
+use Rattle.release_print.proofs.Parts.{Wrote, wrote_some, wrote_more, from_place}
+
+-- the items from a place on, by the item that stands there
+pub drop-get : {A : Type 0} (xs : List A) (i : ℕ) (x : A) → slice_get xs i ≡ Some x → drop i xs ≡ x ∷ drop (i + 1) xs
+drop-get xs i x e = rw (from_place xs i x (slice_get_within xs i x e), get_or_from_slice_get xs i x x e) refl
+
+pub indicators_part : (old mid new whole : List ℕ) (start i d : ℕ) (xs : List ℕ) → i < length xs → Wrote old mid (statements_text (quarterly indicator_line start i (map pos (drop i xs)))) whole → AppendsPart mid new (statement_text (indicator_line (quarter_from start i) (pos (get_or xs i d)))) → AppendsPart old new whole
+indicators_part old mid new whole start i d xs inside w p =
+    wrote_some old mid new (statement_text (indicator_line (quarter_from start i) (pos (get_or xs i d)))) (statements_text (quarterly indicator_line start i (map pos (drop i xs)))) (statements_text (quarterly indicator_line start (i + 1) (map pos (drop (i + 1) xs)))) whole w (rw (from_place xs i d inside) refl) p
+
+pub values_part : (old mid new whole : List ℕ) (start i : ℕ) (d : Cell) (xs : List Cell) → i < length xs → Wrote old mid (statements_text (quarterly value_line start i (numbers_in (drop i xs)))) whole → AppendsPart mid new (statement_text (value_line (quarter_from start i) (number_in (get_or xs i d)))) → AppendsPart old new whole
+values_part old mid new whole start i d xs inside w p =
+    wrote_some old mid new (statement_text (value_line (quarter_from start i) (number_in (get_or xs i d)))) (statements_text (quarterly value_line start i (numbers_in (drop i xs)))) (statements_text (quarterly value_line start (i + 1) (numbers_in (drop (i + 1) xs)))) whole w (rw (from_place xs i d inside) refl) p
+
+pub benchmarks_part : (old mid new whole : List ℕ) (start i : ℕ) (d : ℤ) (xs : List ℤ) → i < length xs → Wrote old mid (statements_text (yearly benchmark_line (start + i) (drop i xs))) whole → AppendsPart mid new (statement_text (benchmark_line (start + i) (get_or xs i d))) → AppendsPart old new whole
+benchmarks_part old mid new whole start i d xs inside w p =
+    wrote_some old mid new (statement_text (benchmark_line (start + i) (get_or xs i d))) (statements_text (yearly benchmark_line (start + i) (drop i xs))) (statements_text (yearly benchmark_line (start + i + 1) (drop (i + 1) xs))) whole w (rw (from_place xs i d inside) refl) p
+
+pub multipliers_part : (old mid new whole : List ℕ) (start i : ℕ) (d : ℤ) (xs : List ℤ) → i < length xs → Wrote old mid (statements_text (yearly multiplier_line (start + i) (drop i xs))) whole → AppendsPart mid new (statement_text (multiplier_line (start + i) (get_or xs i d))) → AppendsPart old new whole
+multipliers_part old mid new whole start i d xs inside w p =
+    wrote_some old mid new (statement_text (multiplier_line (start + i) (get_or xs i d))) (statements_text (yearly multiplier_line (start + i) (drop i xs))) (statements_text (yearly multiplier_line (start + i + 1) (drop (i + 1) xs))) whole w (rw (from_place xs i d inside) refl) p
+
+-- one more line of a benchmark, or of a multiplier, is written
+pub benchmarks_more : (old mid new whole : List ℕ) (start i : ℕ) (d : ℤ) (xs : List ℤ) → i < length xs → Wrote old mid (statements_text (yearly benchmark_line (start + i) (drop i xs))) whole → new ≡ mid ++ statement_text (benchmark_line (start + i) (get_or xs i d)) → Wrote old new (statements_text (yearly benchmark_line (start + (i + 1)) (drop (i + 1) xs))) whole
+benchmarks_more old mid new whole start i d xs inside w grown =
+    let same : start + (i + 1) ≡ start + i + 1 = omega arith in
+    rw same (wrote_more old mid new (statement_text (benchmark_line (start + i) (get_or xs i d))) (statements_text (yearly benchmark_line (start + i) (drop i xs))) (statements_text (yearly benchmark_line (start + i + 1) (drop (i + 1) xs))) whole w (rw (from_place xs i d inside) refl) grown)
+
+pub multipliers_more : (old mid new whole : List ℕ) (start i : ℕ) (d : ℤ) (xs : List ℤ) → i < length xs → Wrote old mid (statements_text (yearly multiplier_line (start + i) (drop i xs))) whole → new ≡ mid ++ statement_text (multiplier_line (start + i) (get_or xs i d)) → Wrote old new (statements_text (yearly multiplier_line (start + (i + 1)) (drop (i + 1) xs))) whole
+multipliers_more old mid new whole start i d xs inside w grown =
+    let same : start + (i + 1) ≡ start + i + 1 = omega arith in
+    rw same (wrote_more old mid new (statement_text (multiplier_line (start + i) (get_or xs i d))) (statements_text (yearly multiplier_line (start + i) (drop i xs))) (statements_text (yearly multiplier_line (start + i + 1) (drop (i + 1) xs))) whole w (rw (from_place xs i d inside) refl) grown)
+
+pub cells_part : (old mid new whole name : List ℕ) (start i : ℕ) (d : Cell) (xs : List Cell) → i < length xs → Wrote old mid (cell_lines start name i (drop i xs)) whole → AppendsPart mid new (cell_line start name i (get_or xs i d)) → AppendsPart old new whole
+cells_part old mid new whole name start i d xs inside w p =
+    wrote_some old mid new (cell_line start name i (get_or xs i d)) (cell_lines start name i (drop i xs)) (cell_lines start name (i + 1) (drop (i + 1) xs)) whole w (rw (from_place xs i d inside) refl) p
+
+-- the lines of the items from a place on are those of the item there and of those behind it
+pub items_next : {A : Type 0} (start item : ℕ) (names : List (List ℕ)) (name : List ℕ) (table_of : A → Table) (nodes : List A) (node : A) → slice_get names item ≡ Some name → item < length nodes → node ≡ get_or nodes item node → items_lines start (drop item names) (map table_of (drop item nodes)) ≡ item_lines start name (table_of node) ++ items_lines start (drop (item + 1) names) (map table_of (drop (item + 1) nodes))
+items_next start item names name table_of nodes node named inside here =
+    rw (from_place nodes item node inside, ← here, drop-get names item name named) refl
+
+pub items_part : {A : Type 0} (old mid new whole : List ℕ) (start item : ℕ) (names : List (List ℕ)) (name : List ℕ) (table_of : A → Table) (nodes : List A) (node : A) → slice_get names item ≡ Some name → item < length nodes → node ≡ get_or nodes item node → Wrote old mid (items_lines start (drop item names) (map table_of (drop item nodes))) whole → AppendsPart mid new (item_lines start name (table_of node)) → AppendsPart old new whole
+items_part old mid new whole start item names name table_of nodes node named inside here w p =
+    wrote_some old mid new (item_lines start name (table_of node)) (items_lines start (drop item names) (map table_of (drop item nodes))) (items_lines start (drop (item + 1) names) (map table_of (drop (item + 1) nodes))) whole w (items_next start item names name table_of nodes node named inside here) p
+
+-- one more item's lines are written
+pub items_more : {A : Type 0} (old mid new whole : List ℕ) (start item : ℕ) (names : List (List ℕ)) (name : List ℕ) (table_of : A → Table) (nodes : List A) (node : A) → slice_get names item ≡ Some name → item < length nodes → node ≡ get_or nodes item node → Wrote old mid (items_lines start (drop item names) (map table_of (drop item nodes))) whole → new ≡ mid ++ item_lines start name (table_of node) → Wrote old new (items_lines start (drop (item + 1) names) (map table_of (drop (item + 1) nodes))) whole
+items_more old mid new whole start item names name table_of nodes node named inside here w grown =
+    wrote_more old mid new (item_lines start name (table_of node)) (items_lines start (drop item names) (map table_of (drop item nodes))) (items_lines start (drop (item + 1) names) (map table_of (drop (item + 1) nodes))) whole w (items_next start item names name table_of nodes node named inside here) grown

@@ -1,0 +1,5 @@
+pub mod Line
+pub mod Release
+pub mod Certificate
+pub mod Part
+pub mod Laws

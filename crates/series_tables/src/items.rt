@@ -1,0 +1,163 @@
+//! The items of a plan: their names, each found by its bytes, and their parents.
+
+ghost use Rattle.std.specs.Prelude.{◌≡◌, ◌<◌, ◌≤◌, ◌++◌, ◌∷◌, [], Some, None, false, length, map, not, position, slice_get, slice_index_or, IfOk, IfSome, OnOk, OnErr};
+ghost use Rattle.std.specs.Option.{ForSome};
+ghost use Rattle.std.specs.List.{list_any};
+ghost use Rattle.std.specs.Str.{bytes_eq};
+ghost use Rattle.series_tables.specs.Plan.{is_parent as is_parent_of, parent_among as parent_among_of};
+
+use indexmap::IndexSet;
+use qna_base::Memory;
+use std::alloc::Global;
+use std::marker::Model;
+
+/// How many items a plan may have.
+pub(crate) const MOST_ITEMS: usize = 512;
+
+/// The items in their order, numbered from 0. A parent has a smaller number than its children.
+#[derive(Drop)]
+pub(crate) struct Items {
+    names: IndexSet<Vec<u8>>,
+    parents: Vec<Option<u16>>,
+}
+
+impl Model for Items {
+    ghost use Rattle.std.specs.Prelude.{◌≡◌, ◌≤◌, length, map};
+    ghost use Rattle.series_tables.specs.Items.{ItemList, AreBackward};
+
+    ghost Value = { ItemList };
+
+    ghost view = { λ items. record { names = map (λ name. name.items) items.names.keys; parents = items.parents.items } };
+
+    ghost invariant = { λ items. (length items.names.keys ≤ 512) × (length items.parents.items ≡ length items.names.keys) × AreBackward items.parents.items };
+}
+
+impl Items {
+    /// No items.
+    pub(crate) fn new(alloc: Global) -> Items
+        ensures { result ≡ record { names = []; parents = [] } }
+    {
+        Items {
+            names: IndexSet::new(alloc),
+            parents: Vec::new(alloc),
+        }
+    }
+
+    /// How many items there are, at most 512.
+    pub(crate) fn len(&self) -> usize
+        ensures items { result ≡ length self.now.names }
+        ensures parents { result ≡ length self.now.parents }
+        ensures few { result ≤ 512 }
+    {
+        self.names.len()
+    }
+
+    /// The name of an item.
+    pub(crate) fn name(&self, node: u16) -> &[u8]
+        requires { node < length self.now.names }
+        ensures { slice_get self.now.names node ≡ Some result.now }
+    {
+        self.names[node as usize].as_slice()
+    }
+
+    /// The number of an item's parent, or none for a root.
+    #[tactic(auto, using(crate::proofs::Parents::smaller_parent))]
+    pub(crate) fn parent(&self, node: u16) -> Option<u16>
+        requires { node < length self.now.names }
+        ensures parent { result ≡ slice_index_or self.now.parents node None }
+        ensures smaller { IfSome result (λ parent. parent < node) }
+    {
+        self.parents[node as usize]
+    }
+
+    /// Whether no item has this one as its parent.
+    pub(crate) fn is_leaf(&self, node: u16) -> bool
+        ensures { result ≡ not (list_any (is_parent_of node) self.now.parents) }
+    {
+        !is_parent_in(node, &self.parents)
+    }
+
+    /// The number of the item that has a name, or none where no item has it.
+    #[tactic(auto, using(crate::proofs::Names::position_map))]
+    pub(crate) fn find(&self, name: &[u8]) -> Option<u16>
+        ensures item { result ≡ position (bytes_eq name.now) self.now.names }
+        ensures within { IfSome result (λ node. node < length self.now.names) }
+    {
+        match self.names.get_index_of(name) {
+            Some(node) => Some(node as u16),
+            None => None,
+        }
+    }
+
+    /// Whether an item has a name.
+    #[tactic(auto, using(crate::proofs::Names::names_of_keys))]
+    pub(crate) fn has(&self, name: &[u8]) -> bool
+        ensures { result ≡ list_any (bytes_eq name.now) self.now.names }
+    {
+        self.names.contains(name)
+    }
+
+    /// The number of the item whose name stands in a parent's field, or none where the field is empty.
+    pub(crate) fn parent_among(&self, parent: &[u8]) -> Option<u16>
+        ensures parent { result ≡ parent_among_of self.now.names parent.now }
+        ensures within { IfSome result (λ node. node < length self.now.names) }
+    {
+        if parent.is_empty() {
+            None
+        } else {
+            self.find(parent)
+        }
+    }
+
+    /// Adds an item. Want of memory changes nothing.
+    pub(crate) fn add(
+        &mut self,
+        alloc: Global,
+        name: &[u8],
+        parent: Option<u16>,
+    ) -> Result<(), Memory>
+        requires few { length self.old.names < 512 }
+        requires unused { list_any (bytes_eq name.now) self.old.names ≡ false }
+        requires smaller { ForSome parent (λ node. node < length self.old.names) }
+        ensures names { OnOk result (self.new.names ≡ self.old.names ++ name.now ∷ []) }
+        ensures parents { OnOk result (self.new.parents ≡ self.old.parents ++ parent ∷ []) }
+        ensures unchanged { OnErr result (self.new ≡ self.old) }
+    {
+        let name = Vec::from_slice(alloc, name)?;
+        self.parents.push(parent)?;
+        match self.names.insert(name) {
+            Ok(_) => Ok(()),
+            Err(name) => {
+                self.parents.pop();
+                Err(Memory::from(name))
+            }
+        }
+    }
+
+    /// The same items once more.
+    pub(crate) fn copy(&self, alloc: Global) -> Result<Items, Memory>
+        ensures { IfOk result (λ items. items ≡ self.now) }
+    {
+        Ok(Items {
+            names: self.names.clone()?,
+            parents: Vec::from_slice(alloc, &self.parents)?,
+        })
+    }
+}
+
+/// Whether some item has this one as its parent.
+fn is_parent_in(node: u16, parents: &[Option<u16>]) -> bool
+    ensures { result ≡ list_any (is_parent_of node) parents.now }
+{
+    parents.iter().any(|parent| is_parent(node, *parent))
+}
+
+/// Whether an item is the parent that another has.
+fn is_parent(node: u16, parent: Option<u16>) -> bool
+    ensures { result ≡ is_parent_of node parent }
+{
+    match parent {
+        Some(parent) => parent == node,
+        None => false,
+    }
+}
