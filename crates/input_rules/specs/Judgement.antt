@@ -1,6 +1,6 @@
 -- The judgement of one input: whether it is taken, or why it is refused (this product's own).
 use Rattle.std.specs.Prelude.{ℕ, ℤ, pos, Bool, false, ◌&&◌, int_le, nat_lt, List, Option, Some, None, Result, Ok, Err, if◌then◌else◌}
-use Rattle.series_tables.specs.Plan.{PlanShape, item_with_name}
+use Rattle.series_tables.specs.Plan.{PlanShape, item_with_name, is_leaf}
 use Rattle.series_tables.specs.LastValue.{periods_of, least_of, most_of}
 use Rattle.series_tables.specs.declared.input.Input.{Input}
 use Rattle.series_tables.specs.declared.input.Kind.{Kind}
@@ -28,9 +28,16 @@ judgement_of_leaf kind leaf None value = Err Range
 judgement_of_leaf kind leaf (Some period) value =
     if is_in_range kind period value then Ok (record { kind = kind; leaf = leaf; period = period; value = value }) else Err Range
 
+-- the number of the leaf that has a name: an item that another names as its parent is no leaf
+abbrev pub leaf_with_name : PlanShape → List ℕ → Option ℕ
+leaf_with_name plan name = elim (item_with_name plan name) [
+  | None ↦ None
+  | Some item ↦ if is_leaf plan item then Some item else None
+]
+
 -- the judgement of an input: no leaf has the name; then an indicator of 0; then a period or a value out of range; else the input of the leaf's number
 abbrev pub judgement : PlanShape → Kind → List ℕ → Option ℕ → ℤ → Result Input Refusal
-judgement plan kind name period value = elim (item_with_name plan name) [
+judgement plan kind name period value = elim (leaf_with_name plan name) [
   | None ↦ Err Unknown
   | Some leaf ↦ if is_zero_indicator kind value then Err Zero else judgement_of_leaf kind leaf period value
 ]

@@ -1,8 +1,8 @@
 // The judgement of one input by the plan.
 
-ghost use Rattle.std.specs.Prelude.{◌≡◌, IfOk, length, Some};
+ghost use Rattle.std.specs.Prelude.{◌≡◌, ◌<◌, IfOk, IfSome, length, Some};
 ghost use Rattle.series_tables.specs.LastValue.{IsFitting, periods_of, least_of, most_of};
-ghost use Rattle.input_rules.specs.Judgement.{is_zero_indicator as is_zero_indicator_of, is_in_range as is_in_range_of, judgement, judgement_of_leaf};
+ghost use Rattle.input_rules.specs.Judgement.{is_zero_indicator as is_zero_indicator_of, is_in_range as is_in_range_of, leaf_with_name as leaf_with_name_of, judgement, judgement_of_leaf};
 
 use series_tables::{Input, Kind, Plan};
 
@@ -23,7 +23,7 @@ pub struct RawInput {
 /// Why an input is refused.
 #[derive(Clone, Copy, Debug, PartialEq, Eq)]
 pub enum Refusal {
-    /// No leaf of the plan has the name.
+    /// No leaf of the plan has the name: no item has it, or one that another item names as its parent.
     Unknown,
     /// An indicator of 0: the method divides by indicators.
     Zero,
@@ -56,13 +56,24 @@ pub(crate) fn judge_input(
     ensures judgement { result ≡ judgement plan.now kind name.now period value }
     ensures fits { IfOk result (IsFitting (length plan.now.names)) }
 {
-    let Some(leaf) = plan.find(name) else {
+    let Some(leaf) = leaf_with_name(plan, name) else {
         return Err(Refusal::Unknown);
     };
     if is_zero_indicator(kind, value) {
         return Err(Refusal::Zero);
     }
     judge_leaf(kind, leaf, period, value)
+}
+
+/// The number of the leaf that has a name, or none where no item has it or the item isn't a leaf.
+fn leaf_with_name(plan: &Plan, name: &[u8]) -> Option<u16>
+    ensures leaf { result ≡ leaf_with_name_of plan.now name.now }
+    ensures within { IfSome result (λ leaf. leaf < length plan.now.names) }
+{
+    match plan.find(name) {
+        Some(item) if plan.is_leaf(item) => Some(item),
+        _ => None,
+    }
 }
 
 /// Whether an input is an indicator of 0.

@@ -10,7 +10,7 @@ use std::test::Fail;
 #[test]
 fn judgements_follow_the_table(rt: HostRuntime) -> Result<(), Fail> {
     let alloc = rt.alloc();
-    let plan = Plan::read(alloc, b"start,2021\nitem,SERV,\nitem,FOOD,\n")?;
+    let plan = Plan::read(alloc, b"start,2021\nitem,TOTAL,\nitem,FOOD,TOTAL\n")?;
     for (kind, name, period, value, refusal) in [
         (
             Kind::Indicator,
@@ -28,6 +28,20 @@ fn judgements_follow_the_table(rt: HostRuntime) -> Result<(), Fail> {
             Some(Refusal::Range),
         ),
         (Kind::Indicator, b"RENT", Some(0), 0, Some(Refusal::Unknown)),
+        (
+            Kind::Indicator,
+            b"TOTAL",
+            Some(0),
+            0,
+            Some(Refusal::Unknown),
+        ),
+        (
+            Kind::Benchmark,
+            b"TOTAL",
+            Some(0),
+            5,
+            Some(Refusal::Unknown),
+        ),
         (Kind::Indicator, b"FOOD", None, 0, Some(Refusal::Zero)),
         (Kind::Indicator, b"FOOD", None, 5, Some(Refusal::Range)),
         (Kind::Indicator, b"FOOD", Some(256), 5, Some(Refusal::Range)),
@@ -89,7 +103,7 @@ fn check_streams(
     streams: &[&[u8]],
     want: Judged,
 ) -> Result<(), Fail> {
-    let plan = Plan::read(alloc, b"start,2021\nitem,SERV,\nitem,FOOD,\n")?;
+    let plan = Plan::read(alloc, b"start,2021\nitem,TOTAL,\nitem,FOOD,TOTAL\n")?;
     for stream in streams {
         assert_eq!(rt; judged(alloc, &plan, stream)?, want, "{stream:?}");
     }
@@ -185,8 +199,11 @@ fn check_form(rt: &impl Abort, alloc: Global) -> Result<(), Fail> {
 }
 
 fn check_judged(rt: &impl Abort, alloc: Global) -> Result<(), Fail> {
-    let unknown: [&[u8]; 7] = [
+    let unknown: [&[u8]; 10] = [
         b"ind,RENT,2021Q1,0",
+        b"ind,TOTAL,2021Q1,0",
+        b"bench,TOTAL,2085,5",
+        b"price,TOTAL,2021Q1,5",
         b"ind,,2021Q1,5",
         b"ind,FO OD,2021Q1,5",
         b"ind,food,2021Q1,5",

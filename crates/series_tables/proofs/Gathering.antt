@@ -4,29 +4,28 @@ use Rattle.std.specs.Option.{is_some}
 use Rattle.std.specs.List.{filter_map}
 use Rattle.std.proofs.lemmas.List.{append-nil}
 use Rattle.std.proofs.lemmas.List.Elements.{filter_map-append}
-use Rattle.series_tables.specs.declared.cause.PlanCause.TheVariants.{Later, NoStart, Twice, Year, NoParent, TooMany}
+use Rattle.series_tables.specs.declared.cause.PlanCause.TheVariants.{NoStart, Twice, Year, NoParent, TooMany}
 use Rattle.series_tables.specs.PlanLine.{PlanEntry, start_entry, reference_entry, item_entry}
-use Rattle.series_tables.specs.Plan.{Gathered, gathered, earliest, start_year, reference_year, item_name, parent_among, parents_from, cause_of_entry, is_second, comes_later, is_early, is_out_of_range, is_orphan, is_past_last}
+use Rattle.series_tables.specs.Plan.{Gathered, gathered, earliest, start_year, reference_year, item_name, parent_among, parents_from, cause_of_entry, is_second, is_early, is_out_of_range, is_orphan, is_past_last}
 use Rattle.series_tables.specs.PlanEntries.{IsFree}
 use Rattle.series_tables.specs.PlanReading.{with_entry}
 
 -- where the first cause that applies is none, none applies
-no_cause : (later early second out orphan past : Bool)
-    → cond later (Some Later) (cond early (Some NoStart) (cond second (Some Twice) (cond out (Some Year) (cond orphan (Some NoParent) (cond past (Some TooMany) None))))) ≡ None
+no_cause : (early second out orphan past : Bool)
+    → cond early (Some NoStart) (cond second (Some Twice) (cond out (Some Year) (cond orphan (Some NoParent) (cond past (Some TooMany) None)))) ≡ None
     → (early ≡ false) × (second ≡ false) × (out ≡ false) × (past ≡ false)
-no_cause true early second out orphan past h = cc
-no_cause false true second out orphan past h = cc
-no_cause false false true out orphan past h = cc
-no_cause false false false true orphan past h = cc
-no_cause false false false false true past h = cc
-no_cause false false false false false true h = cc
-no_cause false false false false false false h = (refl, refl, refl, refl)
+no_cause true second out orphan past h = cc
+no_cause false true out orphan past h = cc
+no_cause false false true orphan past h = cc
+no_cause false false false true past h = cc
+no_cause false false false false true h = cc
+no_cause false false false false false h = (refl, refl, refl, refl)
 
 -- what an entry meets that isn't refused
 pub free_entry : (before : Gathered) (entry : PlanEntry) → cause_of_entry before entry ≡ None → IsFree before entry
 unfolding cause_of_entry
 free_entry before entry h =
-    let tests = no_cause (comes_later entry) (is_early before entry) (is_second before entry) (is_out_of_range before entry) (is_orphan before entry) (is_past_last before entry) h in
+    let tests = no_cause (is_early before entry) (is_second before entry) (is_out_of_range before entry) (is_orphan before entry) (is_past_last before entry) h in
     record { late = tests.0; single = tests.1; within = tests.2; few = tests.3 }
 
 -- the first year of some, where one comes behind none

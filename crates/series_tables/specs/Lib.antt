@@ -7,3 +7,4 @@ pub mod PlanEntries
 pub mod LastValue
 pub mod Cells
 pub mod Ranges
+pub mod Tree

@@ -1,12 +1,12 @@
 -- Plans: the first year, the reference year and the items, and the text that spells them or the first line of it that is refused.
-use Rattle.std.specs.Prelude.{ℕ, ◌-◌, Bool, true, false, not, ◌&&◌, ◌==◌, nat_le, List, [], ◌∷◌, ◌++◌, length, position, Option, Some, None, is_some, unwrap_or, Result, Ok, Err, if◌then◌else◌}
+use Rattle.std.specs.Prelude.{ℕ, ◌-◌, Bool, false, not, ◌&&◌, ◌==◌, nat_le, List, [], ◌∷◌, ◌++◌, length, position, Option, Some, None, is_some, unwrap_or, Result, Ok, Err, if◌then◌else◌}
 use Rattle.std.specs.Option.{option_map, option_or}
 use Rattle.std.specs.List.{list_any, filter_map}
 use Rattle.std.specs.Str.{bytes_eq}
 use Rattle.line_form.specs.Lines.{TextLine, lines_of, next_number}
 use Rattle.period_keys.specs.Period.{is_within}
 use Rattle.series_tables.specs.declared.cause.PlanCause.{PlanCause}
-use Rattle.series_tables.specs.declared.cause.PlanCause.TheVariants.{Form, Later, NoStart, Twice, Year, NoParent, TooMany}
+use Rattle.series_tables.specs.declared.cause.PlanCause.TheVariants.{Form, NoStart, Twice, Year, NoParent, TooMany}
 use Rattle.series_tables.specs.PlanLine.{PlanEntry, start_entry, reference_entry, item_entry, said, is_passed_over}
 
 -- what a plan holds: its first year, the reference year counted from it, and the items' names and parents in the order of their numbers
@@ -84,12 +84,6 @@ gathered entries = record {
 abbrev pub has_item : Gathered → List ℕ → Bool
 has_item before name = list_any (bytes_eq name) before.names
 
--- whether an entry is one of those that this version doesn't read yet: a reference year, or an item with a parent
-abbrev pub comes_later : PlanEntry → Bool
-comes_later (start_entry year) = false
-comes_later (reference_entry year) = true
-comes_later (item_entry name parent) = not (length parent == 0)
-
 -- whether an entry stands before the first year: no start stands before it, and it isn't one
 abbrev pub is_early : Gathered → PlanEntry → Bool
 is_early before (start_entry year) = false
@@ -123,8 +117,7 @@ is_past_last before (item_entry name parent) = nat_le 512 (length before.names)
 -- the cause for which an entry is refused behind those before it: the first that applies, or none
 unfoldable pub cause_of_entry : Gathered → PlanEntry → Option PlanCause
 cause_of_entry before entry =
-    if comes_later entry then Some Later
-    else if is_early before entry then Some NoStart
+    if is_early before entry then Some NoStart
     else if is_second before entry then Some Twice
     else if is_out_of_range before entry then Some Year
     else if is_orphan before entry then Some NoParent

@@ -1,7 +1,7 @@
 -- What a refusal of a plan says of the text.
 use Rattle.std.specs.Prelude.{◌≡◌, ℕ, codes, List, Option, Some, Result, Err}
 use Rattle.series_tables.specs.declared.cause.PlanCause.{PlanCause}
-use Rattle.series_tables.specs.declared.cause.PlanCause.TheVariants.{Form, Later, NoStart, Twice, Year, NoParent, TooMany}
+use Rattle.series_tables.specs.declared.cause.PlanCause.TheVariants.{Form, NoStart, Twice, Year, NoParent, TooMany}
 use Rattle.series_tables.specs.declared.cause.PlanError.{PlanError}
 use Rattle.series_tables.specs.declared.cause.PlanError.TheVariants.{Fault, Memory}
 use Rattle.series_tables.specs.Plan.{PlanShape, PlanRefusal, plan_of}
@@ -23,7 +23,6 @@ IsCauseAt number found Memory = Unit {0}
 -- the printed word of a cause
 abbrev pub cause_text : PlanCause → List ℕ
 cause_text Form = codes "form"
-cause_text Later = codes "later"
 cause_text NoStart = codes "nostart"
 cause_text Twice = codes "twice"
 cause_text Year = codes "year"

@@ -13,8 +13,6 @@ use thiserror::Error;
 pub enum PlanCause {
     /// The line is long, isn't a record of the three forms, its year isn't four digits, or its name isn't a name.
     Form,
-    /// The line is one that later versions read: a reference year, or an item with a parent.
-    Later,
     /// No start year stands before the line, and it gives none. Also told of the line after the last, where no line gives a start year.
     NoStart,
     /// A second start year, a second reference year, or an item with a name that an item has.
@@ -34,7 +32,6 @@ impl PlanCause {
     {
         match self {
             PlanCause::Form => "form",
-            PlanCause::Later => "later",
             PlanCause::NoStart => "nostart",
             PlanCause::Twice => "twice",
             PlanCause::Year => "year",

@@ -1,7 +1,7 @@
 //! What the lines of a plan give so far, and whether a further one may stand behind them.
 
 ghost use Rattle.std.specs.Prelude.{◌≡◌, ◌<◌, ◌≤◌, Some, None, Ok, false, is_some, length, IfOk, IfErr, OnOk};
-ghost use Rattle.series_tables.specs.Plan.{plan_given, years_on as years_on_of, comes_later as comes_later_of, is_early as is_early_of, is_second as is_second_of, is_out_of_range as is_out_of_range_of, is_orphan as is_orphan_of, is_past_last as is_past_last_of, cause_of_entry};
+ghost use Rattle.series_tables.specs.Plan.{plan_given, years_on as years_on_of, is_early as is_early_of, is_second as is_second_of, is_out_of_range as is_out_of_range_of, is_orphan as is_orphan_of, is_past_last as is_past_last_of, cause_of_entry};
 ghost use Rattle.period_keys.specs.Period.{is_within as is_within_of};
 ghost use Rattle.series_tables.specs.PlanError.{Refuses};
 ghost use Rattle.series_tables.specs.PlanReading.{nothing, with_entry};
@@ -58,9 +58,7 @@ impl Draft {
     pub(crate) fn cause(&self, said: Entry) -> Option<PlanCause>
         ensures { result ≡ cause_of_entry self.now (entry_view said.entry) }
     {
-        if comes_later(said) {
-            Some(PlanCause::Later)
-        } else if self.is_early(said) {
+        if self.is_early(said) {
             Some(PlanCause::NoStart)
         } else if self.is_second(said) {
             Some(PlanCause::Twice)
@@ -144,7 +142,7 @@ impl Draft {
     }
 
     /// The plan of what all lines give, where one of them gives the first year; `missing` is the number of the line after the last.
-    pub(crate) fn finish(self, missing: u64) -> Result<Plan, PlanError>
+    pub(crate) fn finish(self, alloc: Global, missing: u64) -> Result<Plan, PlanError>
         ensures plan { IfOk result (λ plan. plan_given self missing ≡ Ok plan) }
         ensures fault { IfErr result (Refuses (plan_given self missing)) }
     {
@@ -155,18 +153,8 @@ impl Draft {
             });
         };
         let reference = Year(years_on(start, self.reference));
-        Ok(Plan::of(start, reference, self.items))
-    }
-}
-
-/// Whether this version leaves an entry to a later one: a reference year, or an item with a parent.
-fn comes_later(said: Entry) -> bool
-    ensures { result ≡ comes_later_of (entry_view said.entry) }
-{
-    match said {
-        Entry::Start(_) => false,
-        Entry::Reference(_) => true,
-        Entry::Item(_, parent) => !parent.is_empty(),
+        let leaves = self.items.leaves(alloc)?;
+        Ok(Plan::of(start, reference, self.items, leaves))
     }
 }
 

@@ -1,10 +1,11 @@
 //! The items of a plan: their names, each found by its bytes, and their parents.
 
-ghost use Rattle.std.specs.Prelude.{◌≡◌, ◌<◌, ◌≤◌, ◌++◌, ◌∷◌, [], Some, None, false, length, map, not, position, slice_get, slice_index_or, IfOk, IfSome, OnOk, OnErr};
+ghost use Rattle.std.specs.Prelude.{◌≡◌, ◌<◌, ◌≤◌, ◌++◌, ◌∷◌, [], Some, None, true, false, length, map, position, replicate, slice_get, slice_index_or, IfOk, IfSome, OnOk, OnErr};
 ghost use Rattle.std.specs.Option.{ForSome};
 ghost use Rattle.std.specs.List.{list_any};
 ghost use Rattle.std.specs.Str.{bytes_eq};
-ghost use Rattle.series_tables.specs.Plan.{is_parent as is_parent_of, parent_among as parent_among_of};
+ghost use Rattle.series_tables.specs.Items.{AreBackward as AreBackwardOf, leaf_flags as leaf_flags_of, leaf_flags_behind, marked};
+ghost use Rattle.series_tables.specs.Plan.{parent_among as parent_among_of};
 
 use indexmap::IndexSet;
 use qna_base::Memory;
@@ -70,11 +71,13 @@ impl Items {
         self.parents[node as usize]
     }
 
-    /// Whether no item has this one as its parent.
-    pub(crate) fn is_leaf(&self, node: u16) -> bool
-        ensures { result ≡ not (list_any (is_parent_of node) self.now.parents) }
+    /// For each item whether it is a leaf: no item has it as its parent. Only items behind it can.
+    pub(crate) fn leaves(&self, alloc: Global) -> Result<Vec<bool>, Memory>
+        ensures leaf { IfOk result (λ flags. flags.items ≡ leaf_flags_of self.now.parents) }
+        ensures behind { IfOk result (λ flags. flags.items ≡ leaf_flags_behind self.now.parents) }
+        ensures all { IfOk result (λ flags. length flags.items ≡ length self.now.names) }
     {
-        !is_parent_in(node, &self.parents)
+        leaf_flags(alloc, &self.parents)
     }
 
     /// The number of the item that has a name, or none where no item has it.
@@ -145,19 +148,33 @@ impl Items {
     }
 }
 
-/// Whether some item has this one as its parent.
-fn is_parent_in(node: u16, parents: &[Option<u16>]) -> bool
-    ensures { result ≡ list_any (is_parent_of node) parents.now }
+/// For each item whether no item has it as its parent, where each parent stands before its children.
+fn leaf_flags(alloc: Global, parents: &[Option<u16>]) -> Result<Vec<bool>, Memory>
+    requires { AreBackwardOf parents.now }
+    ensures { IfOk result (λ flags. flags.items ≡ leaf_flags_of parents.now) }
 {
-    parents.iter().any(|parent| is_parent(node, *parent))
+    let mut flags = vec![in alloc; true; parents.len()]?;
+    mark_parents(parents, &mut flags);
+    Ok(flags)
 }
 
-/// Whether an item is the parent that another has.
-fn is_parent(node: u16, parent: Option<u16>) -> bool
-    ensures { result ≡ is_parent_of node parent }
+/// Takes the flags of all parents away.
+fn mark_parents(parents: &[Option<u16>], flags: &mut [bool])
+    requires backward { AreBackwardOf parents.now }
+    requires all { flags.old ≡ replicate (length parents.now) true }
+    ensures { flags.new ≡ leaf_flags_of parents.now }
 {
-    match parent {
-        Some(parent) => parent == node,
-        None => false,
+    for node in 0..parents.len() {
+        mark(parents[node], flags);
+    }
+}
+
+/// Takes a parent's flag away.
+fn mark(parent: Option<u16>, flags: &mut [bool])
+    requires { ForSome parent (λ node. node < length flags.old) }
+    ensures { flags.new ≡ marked parent flags.old }
+{
+    if let Some(parent) = parent {
+        flags[parent as usize] = false;
     }
 }

@@ -1,8 +1,10 @@
 //! The plan: the first year, the reference year and the items.
 
-ghost use Rattle.std.specs.Prelude.{◌≡◌, ◌<◌, ◌≤◌, ◌↔◌, Some, None, Ok, length, slice_get, slice_index_or, IsTrue, IfOk, IfErr, IfSome};
+ghost use Rattle.std.specs.Prelude.{◌≡◌, ◌<◌, ◌≤◌, ◌↔◌, Some, None, Ok, not, suc, drop, length, slice_get, slice_index_or, IsTrue, IfOk, IfErr, IfSome};
 ghost use Rattle.period_keys.specs.declared.Year.{Year as YearPlace};
-ghost use Rattle.series_tables.specs.Plan.{plan_of, item_with_name, is_leaf as is_leaf_of};
+ghost use Rattle.std.specs.List.{list_any};
+ghost use Rattle.series_tables.specs.Items.{leaf_flags, leaf_flags_behind};
+ghost use Rattle.series_tables.specs.Plan.{plan_of, item_with_name, is_parent, is_leaf as is_leaf_of};
 
 use crate::cause::PlanError;
 use crate::items::Items;
@@ -19,17 +21,19 @@ pub struct Plan {
     start: u16,
     reference: Year,
     items: Items,
+    leaves: Vec<bool>,
 }
 
 impl Model for Plan {
-    ghost use Rattle.std.specs.Prelude.{◌<◌, ◌≤◌};
+    ghost use Rattle.std.specs.Prelude.{◌≡◌, ◌<◌, ◌≤◌, length};
+    ghost use Rattle.series_tables.specs.Items.{leaf_flags, leaf_flags_behind};
     ghost use Rattle.series_tables.specs.Plan.{PlanShape};
 
     ghost Value = { PlanShape };
 
     ghost view = { λ plan. record { start = plan.start; reference = plan.reference.0; names = plan.items.names; parents = plan.items.parents } };
 
-    ghost invariant = { λ plan. (1900 ≤ plan.start) × (plan.start ≤ 2200) × (plan.reference.0 < 64) };
+    ghost invariant = { λ plan. ((1900 ≤ plan.start) × (plan.start ≤ 2200) × (plan.reference.0 < 64)) × ((length plan.leaves.items ≡ length plan.items.names) × (plan.leaves.items ≡ leaf_flags plan.items.parents) × (plan.leaves.items ≡ leaf_flags_behind plan.items.parents)) };
 }
 
 impl Plan {
@@ -38,7 +42,7 @@ impl Plan {
     /// Reads a plan: lines `start,YEAR`, `reference,YEAR` and `item,NAME,PARENT`, with empty lines and lines that begin with `#`
     /// passed over and counted. `start` comes first and once, with a year from 1900 to 2200; `reference` once at most, with one of
     /// the 64 years from the first on. A name is 1 to 32 ASCII letters, digits, `_`, `.` or `-`, no two items have one name, PARENT is empty
-    /// or the name of an earlier item, and there are at most 512 items. This version refuses `reference` and a PARENT as `Later`.
+    /// or the name of an earlier item, and there are at most 512 items.
     ///
     /// A fault names the first line that is refused, with the first cause that applies to it. The form is this product's own.
     pub fn read(alloc: Global, text: &[u8]) -> Result<Plan, PlanError>
@@ -48,17 +52,21 @@ impl Plan {
         read_text(alloc, text)
     }
 
-    /// The plan of these years and items.
-    pub(crate) fn of(start: u16, reference: Year, items: Items) -> Plan
+    /// The plan of these years and items, with a flag for each item that says whether it is a leaf.
+    pub(crate) fn of(start: u16, reference: Year, items: Items, leaves: Vec<bool>) -> Plan
         requires first { 1900 ≤ start }
         requires last { start ≤ 2200 }
         requires within { reference.0 < 64 }
+        requires all { length leaves.items ≡ length items.names }
+        requires leaves { leaves.items ≡ leaf_flags items.parents }
+        requires behind { leaves.items ≡ leaf_flags_behind items.parents }
         ensures { result ≡ record { start = start; reference = reference.0; names = items.names; parents = items.parents } }
     {
         Plan {
             start,
             reference,
             items,
+            leaves,
         }
     }
 
@@ -111,12 +119,13 @@ impl Plan {
         self.items.parent(node)
     }
 
-    /// Whether an item is a leaf: no item of the whole plan names it as its parent.
+    /// Whether an item is a leaf: no item of the whole plan names it as its parent. Only items behind it can.
     pub fn is_leaf(&self, node: u16) -> bool
         requires { node < length self.now.names }
-        ensures { result ≡ is_leaf_of self.now node }
+        ensures leaf { result ≡ is_leaf_of self.now node }
+        ensures behind { result ≡ not (list_any (is_parent node) (drop (suc node) self.now.parents)) }
     {
-        self.items.is_leaf(node)
+        self.leaves[node as usize]
     }
 
     /// The number of the item that has a name, or none where no item has it.
@@ -132,10 +141,12 @@ impl Plan {
         ensures { IfOk result (λ plan. plan ≡ self.now) }
     {
         let items = self.items.copy(alloc)?;
+        let leaves = Vec::from_slice(alloc, &self.leaves)?;
         Ok(Plan {
             start: self.start,
             reference: self.reference,
             items,
+            leaves,
         })
     }
 }

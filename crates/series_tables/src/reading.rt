@@ -41,7 +41,7 @@ pub(crate) fn read_text(alloc: Global, text: &[u8]) -> Result<Plan, PlanError>
 {
     let mut progress = Progress::new(alloc);
     take_text(alloc, text, &mut progress)?;
-    progress.finish()
+    progress.finish(alloc)
 }
 
 /// Takes what a line says that isn't passed over.
@@ -132,10 +132,10 @@ impl Progress {
 
     /// The plan of what all lines give.
     #[tactic(auto, unfolding(crate::specs::PlanReading::outcome))]
-    fn finish(self) -> Result<Plan, PlanError>
+    fn finish(self, alloc: Global) -> Result<Plan, PlanError>
         ensures plan { IfOk result (λ plan. outcome self [] ≡ Ok plan) }
         ensures fault { IfErr result (Refuses (outcome self [])) }
     {
-        self.draft.finish(self.count.saturating_add(1))
+        self.draft.finish(alloc, self.count.saturating_add(1))
     }
 }

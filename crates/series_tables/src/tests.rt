@@ -31,18 +31,11 @@ const FORMS: [Row; 12] = [
     ),
 ];
 
-/// Lines that wait for a later version, and lines with no first year before them.
-const EARLY: [Row; 13] = [
-    (b"reference,2021\n", 1, PlanCause::Later),
-    (b"start,2021\nreference,1800\n", 2, PlanCause::Later),
-    (b"item,A,B\n", 1, PlanCause::Later),
-    (b"start,2021\nitem,A,\nitem,A,A\n", 3, PlanCause::Later),
-    (b"start,2021\nitem,A,A B\n", 2, PlanCause::Later),
-    (
-        b"# plan\n\nstart,2021\n\n#\nitem,A,B\n",
-        6,
-        PlanCause::Later,
-    ),
+/// Lines with no first year before them.
+const EARLY: [Row; 10] = [
+    (b"reference,2021\n", 1, PlanCause::NoStart),
+    (b"\nreference,1800\nstart,2021\n", 2, PlanCause::NoStart),
+    (b"item,A,B\n", 1, PlanCause::NoStart),
     (b"", 1, PlanCause::NoStart),
     (b"\xEF\xBB\xBF", 1, PlanCause::NoStart),
     (b"\r", 2, PlanCause::NoStart),
@@ -52,8 +45,27 @@ const EARLY: [Row; 13] = [
     (b"\nitem,A,\nitem,A,\nstart,2021\n", 2, PlanCause::NoStart),
 ];
 
+/// Items whose parent isn't an item before them.
+const ORPHANS: [Row; 7] = [
+    (b"start,2021\nitem,A,A\n", 2, PlanCause::NoParent),
+    (b"start,2021\nitem,A,\nitem,A,B\n", 3, PlanCause::Twice),
+    (b"start,2021\nitem,A,A B\n", 2, PlanCause::NoParent),
+    (b"start,2021\nitem,A,B\nitem,B,\n", 2, PlanCause::NoParent),
+    (b"start,2021\nitem,A,\nitem,B,a\n", 3, PlanCause::NoParent),
+    (
+        b"start,2021\nitem,AB,\nitem,C,A\nstart,2021\n",
+        3,
+        PlanCause::NoParent,
+    ),
+    (
+        b"# plan\n\nstart,2021\n\n#\nitem,A,B\n",
+        6,
+        PlanCause::NoParent,
+    ),
+];
+
 /// Lines behind a first year.
-const BEHIND: [Row; 11] = [
+const BEHIND: [Row; 17] = [
     (b"start,2021\nstart,2021\n", 2, PlanCause::Twice),
     (b"start,2021\nstart,1800\n", 2, PlanCause::Twice),
     (
@@ -76,6 +88,24 @@ const BEHIND: [Row; 11] = [
         3,
         PlanCause::Twice,
     ),
+    (
+        b"start,2021\nreference,2021\nreference,2021\n",
+        3,
+        PlanCause::Twice,
+    ),
+    (
+        b"start,2021\nreference,2084\nitem,A,\nreference,1800\n",
+        4,
+        PlanCause::Twice,
+    ),
+    (b"start,2021\nreference,2020\n", 2, PlanCause::Year),
+    (b"start,2021\nreference,2085\n", 2, PlanCause::Year),
+    (
+        b"start,2021\nreference,2085\nreference,2021\n",
+        2,
+        PlanCause::Year,
+    ),
+    (b"start,2200\nreference,2264\n", 2, PlanCause::Year),
     (b"start,1899\n", 1, PlanCause::Year),
     (b"start,2201\n", 1, PlanCause::Year),
     (b"start,0000\n", 1, PlanCause::Year),
@@ -83,21 +113,42 @@ const BEHIND: [Row; 11] = [
     (b"start,2021\nitem,B C,\nitem,B,C\n", 2, PlanCause::Form),
 ];
 
-/// Plans, their first year and their number of items.
-const PLANS: [(&'static [u8], u16, u16); 9] = [
-    (b"start,1900", 1900, 0),
-    (b"start,2200\n", 2200, 0),
-    (b"start,2021\nitem,FOOD,\nitem,SERV,\n", 2021, 2),
-    (b"start,2021\r\nitem,FOOD,\r\n", 2021, 1),
-    (b"\xEF\xBB\xBFstart,2021\nitem,FOOD,", 2021, 1),
-    (b"# plan\n\nstart,2021\n#,,\"\nitem,FOOD,\n\n", 2021, 1),
-    (b"\"start\",\"2021\"\n\"item\",FOOD,\n", 2021, 1),
-    (b"start,2021\nitem,FOOD,\"\n", 2021, 1),
+/// Plans, their first year, the years from there to the reference year, and their number of items.
+const PLANS: [(&'static [u8], u16, u16, u16); 13] = [
+    (b"start,1900", 1900, 0, 0),
+    (b"start,2200\n", 2200, 0, 0),
+    (b"start,2200\nreference,2263", 2200, 63, 0),
+    (b"start,2021\nreference,2021\n", 2021, 0, 0),
+    (b"start,2021\n\nreference,2084\nitem,FOOD,\n", 2021, 63, 1),
+    (
+        b"start,2021\nitem,FOOD,\n\"reference\",2022\r\n",
+        2021,
+        1,
+        1,
+    ),
+    (b"start,2021\nitem,FOOD,\nitem,SERV,\n", 2021, 0, 2),
+    (b"start,2021\r\nitem,FOOD,\r\n", 2021, 0, 1),
+    (b"\xEF\xBB\xBFstart,2021\nitem,FOOD,", 2021, 0, 1),
+    (b"# plan\n\nstart,2021\n#,,\"\nitem,FOOD,\n\n", 2021, 0, 1),
+    (b"\"start\",\"2021\"\n\"item\",FOOD,\n", 2021, 0, 1),
+    (b"start,2021\nitem,FOOD,\"\n", 2021, 0, 1),
     (
         b"start,2021\nitem,a_Z.0-9,\nitem,ABCDEFGHIJKLMNOPQRSTUVWXYZ012345,\n",
         2021,
+        0,
         2,
     ),
+];
+
+/// A tree of four items, and the parent of each and whether it is a leaf.
+const TREE: &'static [u8] =
+    b"start,2021\nitem,TOTAL,\nitem,FOOD,TOTAL\nitem,SERV,\"TOTAL\"\nitem,RENT,SERV\n";
+
+const PLACES: [(Option<u16>, bool); 4] = [
+    (None, false),
+    (Some(0), true),
+    (Some(0), false),
+    (Some(2), true),
 ];
 
 /// The refusal of a text; none where it is a plan or memory is wanting.
@@ -117,12 +168,12 @@ fn check_refusals(rt: &impl Abort, alloc: Global, rows: &[Row]) {
 fn check_plans(
     rt: &impl Abort,
     alloc: Global,
-    rows: &[(&'static [u8], u16, u16)],
+    rows: &[(&'static [u8], u16, u16, u16)],
 ) -> Result<(), Fail> {
-    for (text, start, len) in rows {
+    for (text, start, reference, len) in rows {
         let plan = Plan::read(alloc, text)?;
         assert_eq!(rt; (plan.start(), plan.len()), (*start, *len), "{text:?}");
-        assert_eq!(rt; plan.reference(), Year(0));
+        assert_eq!(rt; plan.reference(), Year(*reference), "{text:?}");
     }
     Ok(())
 }
@@ -131,6 +182,7 @@ fn check_plans(
 fn a_plan_is_refused_at_its_first_line_for_its_first_cause(rt: HostRuntime) {
     check_refusals(&rt, rt.alloc(), &FORMS);
     check_refusals(&rt, rt.alloc(), &EARLY);
+    check_refusals(&rt, rt.alloc(), &ORPHANS);
     check_refusals(&rt, rt.alloc(), &BEHIND);
 }
 
@@ -180,16 +232,17 @@ fn a_plan_has_512_items_and_lines_of_256_bytes(rt: HostRuntime) -> Result<(), Fa
 
 #[test]
 fn a_plan_gives_its_items_and_is_copied(rt: HostRuntime) -> Result<(), Fail> {
-    let plan = Plan::read(rt.alloc(), b"start,2021\nitem,FOOD,\nitem,SERV,\n")?.copy(rt.alloc())?;
-    assert_eq!(rt;
-        (plan.start(), plan.len(), plan.is_empty()),
-        (2021, 2, false)
-    );
-    assert_eq!(rt; plan.name(1), b"SERV".as_slice());
-    assert_eq!(rt; (plan.parent(0), plan.parent(1)), (None, None));
-    assert_eq!(rt; (plan.is_leaf(0), plan.is_leaf(1)), (true, true));
-    assert_eq!(rt; (plan.find(b"SERV"), plan.find(b"RENT")), (Some(1), None));
-    assert_eq!(rt; PlanCause::NoParent.text(), "noparent");
+    let plan = Plan::read(rt.alloc(), TREE)?.copy(rt.alloc())?;
+    assert_eq!(rt; (plan.start(), plan.is_empty()), (2021, false));
+    assert_eq!(rt; plan.len(), 4);
+    assert_eq!(rt; plan.name(2), b"SERV".as_slice());
+    for item in 0..plan.len() {
+        assert_eq!(rt;
+            PLACES.get(item as usize).copied(),
+            Some((plan.parent(item), plan.is_leaf(item)))
+        );
+    }
+    assert_eq!(rt; (plan.find(b"SERV"), plan.find(b"GOODS")), (Some(2), None));
     Ok(())
 }
 
