@@ -1,5 +1,5 @@
 -- Why a leaf's values meet the benchmarks and are within the gap of its table.
-use Rattle.std.specs.Prelude.{◌≡◌, ℕ, ◌*◌, ◌^◌, ◌/◌, ◌≤◌, ℤ, pos, List, [], ◌∷◌, ◌++◌, map, length, drop, slice_index, EachIndex, All, Option}
+use Rattle.std.specs.Prelude.{◌≡◌, ℕ, ◌*◌, ◌^◌, ◌/◌, ◌≤◌, ℤ, pos, List, [], ◌∷◌, ◌++◌, map, length, drop, slice_index, EachIndex, All, Option, Some, None}
 use Rattle.std.proofs.Common.{refl, sym, ◌∙◌, ap, arith, get_or, subst, length-append, length-drop}
 use Rattle.std.proofs.lemmas.List.{length-map}
 use Rattle.denton_parts.specs.Benchmarks.{MeetsBenchmarks}
@@ -15,10 +15,15 @@ use Rattle.denton_solve.proofs.Pairs.{multipliers_count}
 use Rattle.denton_solve.proofs.Values.{series_meets, series_count}
 use Rattle.dual_cert.proofs.Whole.{within_gap}
 use Rattle.extrapolate.specs.Carried.{carried, carried_of}
+use Rattle.price_base.specs.declared.Cell.{Cell}
 use Rattle.price_base.specs.declared.Cell.TheVariants.{Value}
+use Rattle.price_base.specs.Volumes.{volumes_of}
 use Rattle.series_tables.specs.Ranges.{IsPositiveInRange, IsBenchmarkOrNone}
-use Rattle.node_compile.specs.Laws.{numbers_in, MeetsItsBenchmarks, IsWithinItsGap}
-use Rattle.node_compile.specs.Leaf.{benchmark_run, run_values, table_of_years, leaf_table}
+use Rattle.node_compile.specs.Laws.{numbers_in, MeetsItsBenchmarks, IsWithinItsGap, IsTrulyChained}
+use Rattle.annual_overlap.proofs.Laws.{chain_within_drift, chain_adds_up}
+use Rattle.annual_overlap.specs.Table.{chain_of}
+use Rattle.node_compile.specs.Table.{Certificate}
+use Rattle.node_compile.specs.Leaf.{missing, certificate_of, benchmark_run, run_values, chained_table, table_of_years, leaf_table}
 use Rattle.node_compile.proofs.Runs.{run_each, run_count, years_count, years_benchmarks}
 
 -- what follows the benchmarked years changes nothing
@@ -54,10 +59,10 @@ numbers_kept [] = refl
 numbers_kept (x ∷ xs) = ap (λ (rest : List ℤ). x ∷ rest) (numbers_kept xs)
 
 -- a table's values meet its benchmarks and are within its gap
-table_worth : (indicators : List ℕ) (benchmarks : List ℤ) (years : List YearPart) → benchmarks_of years ≡ benchmarks → 4 * length years ≤ length indicators → EachIndex indicators (λ t. 1 ≤ slice_index indicators t) →
-    MeetsItsBenchmarks (table_of_years indicators benchmarks years) × IsWithinItsGap (table_of_years indicators benchmarks years)
-table_worth indicators benchmarks [] e room each = (tt, tt)
-table_worth indicators benchmarks (year ∷ years) e room each =
+table_worth : (indicators : List ℕ) (prices : List (Option ℕ)) (benchmarks : List ℤ) (reference : ℕ) (years : List YearPart) → benchmarks_of years ≡ benchmarks → 4 * length years ≤ length indicators → EachIndex indicators (λ t. 1 ≤ slice_index indicators t) →
+    MeetsItsBenchmarks (table_of_years indicators prices benchmarks reference years) × IsWithinItsGap (table_of_years indicators prices benchmarks reference years)
+table_worth indicators prices benchmarks reference [] e room each = (tt, tt)
+table_worth indicators prices benchmarks reference (year ∷ years) e room each =
     let k : ℕ = scale_of_years (year ∷ years) in
     let u : List ℤ = multipliers_of k (year ∷ years) in
     let x : List ℤ = run_values k (year ∷ years) u indicators in
@@ -70,18 +75,18 @@ table_worth indicators benchmarks (year ∷ years) e room each =
     )
 
 -- so are those of a leaf's table
-pub leaf_worth : (indicators : List ℕ) (benchmarks : List (Option ℤ)) → All IsPositiveInRange indicators → All IsBenchmarkOrNone benchmarks → length benchmarks ≡ length indicators / 4 → MeetsItsBenchmarks (leaf_table indicators benchmarks) × IsWithinItsGap (leaf_table indicators benchmarks)
+pub leaf_worth : (indicators : List ℕ) (prices : List (Option ℕ)) (benchmarks : List (Option ℤ)) (reference : ℕ) → All IsPositiveInRange indicators → All IsBenchmarkOrNone benchmarks → length benchmarks ≡ length indicators / 4 → MeetsItsBenchmarks (leaf_table indicators prices benchmarks reference) × IsWithinItsGap (leaf_table indicators prices benchmarks reference)
 unfolding leaf_table
-leaf_worth indicators benchmarks each_indicator each_benchmark years =
+leaf_worth indicators prices benchmarks reference each_indicator each_benchmark years =
     let few = run_count benchmarks in
     let room : 4 * length (benchmark_run benchmarks) ≤ length indicators = omega arith in
     let count = years_count indicators (benchmark_run benchmarks) room in
-    table_worth indicators (benchmark_run benchmarks) (years_of indicators (benchmark_run benchmarks)) (years_benchmarks indicators (benchmark_run benchmarks) room (λ y inside. run_each benchmarks each_benchmark y inside)) (omega arith) (λ t inside. (each_indicator t 0 inside).0)
+    table_worth indicators prices (benchmark_run benchmarks) reference (years_of indicators (benchmark_run benchmarks)) (years_benchmarks indicators (benchmark_run benchmarks) room (λ y inside. run_each benchmarks each_benchmark y inside)) (omega arith) (λ t inside. (each_indicator t 0 inside).0)
 
 -- the table of a leaf without a benchmarked year
-pub leaf_table_none : (indicators : List ℕ) (benchmarks : List (Option ℤ)) → benchmark_run benchmarks ≡ [] → leaf_table indicators benchmarks ≡ table_of_years indicators [] []
+pub leaf_table_none : (indicators : List ℕ) (prices : List (Option ℕ)) (benchmarks : List (Option ℤ)) (reference : ℕ) → benchmark_run benchmarks ≡ [] → leaf_table indicators prices benchmarks reference ≡ table_of_years indicators prices [] reference []
 unfolding leaf_table
-leaf_table_none indicators benchmarks e = ap (λ (run : List ℤ). table_of_years indicators run (years_of indicators run)) e ∙ ap (λ (years : List YearPart). table_of_years indicators [] years) (none indicators)
+leaf_table_none indicators prices benchmarks reference e = ap (λ (run : List ℤ). table_of_years indicators prices run reference (years_of indicators run)) e ∙ ap (λ (years : List YearPart). table_of_years indicators prices [] reference years) (none indicators)
   where
     none : (indicators : List ℕ) → years_of indicators [] ≡ []
     none [] = refl
@@ -91,6 +96,30 @@ leaf_table_none indicators benchmarks e = ap (λ (run : List ℤ). table_of_year
     none (a ∷ b ∷ c ∷ d ∷ rest) = refl
 
 -- the table of a leaf with benchmarked years
-pub leaf_table_is : (indicators : List ℕ) (benchmarks : List (Option ℤ)) (run : List ℤ) → run ≡ benchmark_run benchmarks → table_of_years indicators run (years_of indicators run) ≡ leaf_table indicators benchmarks
+pub leaf_table_is : (indicators : List ℕ) (prices : List (Option ℕ)) (benchmarks : List (Option ℤ)) (reference : ℕ) (run : List ℤ) → run ≡ benchmark_run benchmarks → table_of_years indicators prices run reference (years_of indicators run) ≡ leaf_table indicators prices benchmarks reference
 unfolding leaf_table
-leaf_table_is indicators benchmarks run e = ap (λ (r : List ℤ). table_of_years indicators r (years_of indicators r)) e
+leaf_table_is indicators prices benchmarks reference run e = ap (λ (r : List ℤ). table_of_years indicators prices r reference (years_of indicators r)) e
+
+-- the table that is made of a run's years, scale, multipliers, values and gap
+pub table_made : (indicators : List ℕ) (prices : List (Option ℕ)) (benchmarks : List ℤ) (reference k : ℕ) (u x : List ℤ) (gap : ℤ) (years : List YearPart) (value prev : List Cell) → 1 ≤ length years → k ≡ scale_of_years years → u ≡ multipliers_of k years → x ≡ run_values k years u indicators →
+    gap ≡ gap_by (pos (10 ^ k)) indicators x (changes u indicators) → value ≡ map Value x → prev ≡ volumes_of x prices →
+    chained_table (Some (record { indicators = indicators; benchmarks = benchmarks; scale = k; multipliers = u; gap = gap })) value prev reference ≡ table_of_years indicators prices benchmarks reference years
+table_made indicators prices benchmarks reference k u x gap [] value prev some e_k e_u e_x e_gap e_value e_prev = absurd (omega arith)
+table_made indicators prices benchmarks reference k u x gap (year ∷ years) value prev some e_k e_u e_x e_gap e_value e_prev = rw (e_value, e_prev, e_gap, e_x, e_u, e_k) refl
+
+-- a table that has a chain is truly chained
+pub table_chained : (leaf : Option Certificate) (value prev : List Cell) (reference : ℕ) → IsTrulyChained reference (chained_table leaf value prev reference)
+table_chained leaf value prev reference = (chain_within_drift (chain_of value prev reference) value prev reference refl, chain_adds_up (chain_of value prev reference) value prev reference refl)
+
+-- so is a leaf's
+years_chained : (indicators : List ℕ) (prices : List (Option ℕ)) (benchmarks : List ℤ) (reference : ℕ) (years : List YearPart) → IsTrulyChained reference (table_of_years indicators prices benchmarks reference years)
+years_chained indicators prices benchmarks reference [] = table_chained None (missing (length indicators)) (missing (length indicators)) reference
+years_chained indicators prices benchmarks reference (year ∷ years) =
+    let k : ℕ = scale_of_years (year ∷ years) in
+    let u : List ℤ = multipliers_of k (year ∷ years) in
+    let x : List ℤ = run_values k (year ∷ years) u indicators in
+    table_chained (Some (certificate_of indicators benchmarks k u x)) (map Value x) (volumes_of x prices) reference
+
+pub leaf_chained : (indicators : List ℕ) (prices : List (Option ℕ)) (benchmarks : List (Option ℤ)) (reference : ℕ) → IsTrulyChained reference (leaf_table indicators prices benchmarks reference)
+unfolding leaf_table
+leaf_chained indicators prices benchmarks reference = years_chained indicators prices (benchmark_run benchmarks) reference (years_of indicators (benchmark_run benchmarks))

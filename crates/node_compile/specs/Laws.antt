@@ -1,9 +1,12 @@
--- What a leaf's table is worth, in the words of the manual's chapter 6: its values meet the benchmarks, and no other series that meets them is better by more than its gap.
-use Rattle.std.specs.Prelude.{◌^◌, ℤ, pos, List, map, IfSome}
+-- What an item's table is worth. In the words of the manual's chapter 6: a leaf's values meet the benchmarks, and no other series that meets them is better by
+-- more than the gap. In those of its chapter 8: chained volumes are the products of the links, up to a printed drift, and add up over the year.
+use Rattle.std.specs.Prelude.{ℕ, ◌^◌, ℤ, pos, List, map, IfSome}
 use Rattle.denton_parts.specs.Benchmarks.{MeetsBenchmarks}
 use Rattle.denton_parts.specs.Ratios.{IsWithinGap}
 use Rattle.price_base.specs.declared.Cell.{Cell}
 use Rattle.price_base.specs.declared.Cell.TheVariants.{Missing, Value, NoBase, NoLink, Range}
+use Rattle.annual_overlap.specs.Drift.{AreWithinDrift}
+use Rattle.annual_overlap.specs.Table.{DoQuartersAddUp}
 use Rattle.node_compile.specs.Table.{Table}
 
 -- the number in a cell. A mark has none, and 0 stands for it; a leaf with a certificate has no mark among its values
@@ -25,3 +28,8 @@ MeetsItsBenchmarks table = IfSome table.leaf (λ certificate. MeetsBenchmarks ce
 -- no series of fractions that meets these benchmarks has a sum of squared ratio changes smaller than that of the values by more than the certificate's gap over 10^(2 * scale)
 abbrev pub IsWithinItsGap : Table → Type 0
 IsWithinItsGap table = IfSome table.leaf (λ certificate. IsWithinGap certificate.indicators certificate.benchmarks (numbers_in table.value) certificate.gap (pos (10 ^ certificate.scale)))
+
+-- the chain of a table from a reference year: each level that is a number is within its drift of the exact chained volume, and the quarters of each complete year
+-- with a level and a volume above zero add up to the level
+abbrev pub IsTrulyChained : ℕ → Table → Type 0
+IsTrulyChained reference table = AreWithinDrift table.chain.value table.chain.prev reference table.chain.level table.chain.drift × DoQuartersAddUp table.chain

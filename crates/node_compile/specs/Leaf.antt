@@ -1,5 +1,7 @@
--- The table of a leaf, from the run of its indicators and the benchmarks of the run's whole years (IMF Quarterly National Accounts Manual 2017, chapter 6).
+-- The table of a leaf, from the run of its indicators, the prices of the run's quarters, the benchmarks of its whole years and the reference year (IMF
+-- Quarterly National Accounts Manual 2017, chapters 6 and 8).
 use Rattle.std.specs.Prelude.{ℕ, ◌*◌, ◌^◌, ℤ, pos, List, [], ◌∷◌, ◌++◌, map, drop, replicate, length, slice_index_or, Option, Some, None}
+use Rattle.annual_overlap.specs.Table.{chain_of}
 use Rattle.denton_parts.specs.Changes.{changes}
 use Rattle.denton_parts.specs.Gap.{gap_by}
 use Rattle.denton_parts.specs.Scale.{scale_of_years}
@@ -10,6 +12,7 @@ use Rattle.denton_solve.specs.Sweeps.{multipliers_of}
 use Rattle.extrapolate.specs.Carried.{carried_of}
 use Rattle.price_base.specs.declared.Cell.{Cell}
 use Rattle.price_base.specs.declared.Cell.TheVariants.{Missing, Value}
+use Rattle.price_base.specs.Volumes.{volumes_of}
 use Rattle.node_compile.specs.Table.{Certificate, Table}
 
 -- the benchmarks of the benchmarked years: those before the first year that has none
@@ -32,20 +35,25 @@ certificate_of indicators benchmarks k multipliers values = record { indicators 
 abbrev pub missing : ℕ → List Cell
 missing quarters = replicate quarters Missing
 
--- the table of a run with benchmarked years, from their scale, multipliers and values
-abbrev pub benchmarked_table : List ℕ → List ℤ → ℕ → List ℤ → List ℤ → Table
-benchmarked_table indicators benchmarks k multipliers values = record { leaf = Some (certificate_of indicators benchmarks k multipliers values); value = map Value values; prev = missing (length indicators) }
+-- the table of these values and volumes at previous-year prices, with their chain from the reference year, counted from the first year
+abbrev pub chained_table : Option Certificate → List Cell → List Cell → ℕ → Table
+chained_table leaf value prev reference = record { leaf = leaf; value = value; prev = prev; chain = chain_of value prev reference }
 
--- the table of so many quarters without a benchmarked year
-abbrev pub missing_table : ℕ → Table
-missing_table quarters = record { leaf = None; value = missing quarters; prev = missing quarters }
+-- the table of a run with benchmarked years, from their scale, multipliers and values: the volumes are the values' at these prices
+abbrev pub benchmarked_table : List ℕ → List (Option ℕ) → List ℤ → ℕ → ℕ → List ℤ → List ℤ → Table
+benchmarked_table indicators prices benchmarks reference k multipliers values =
+    chained_table (Some (certificate_of indicators benchmarks k multipliers values)) (map Value values) (volumes_of values prices) reference
+
+-- the table of so many quarters without a benchmarked year: a quarter without a value has no volume, whatever its price
+abbrev pub missing_table : ℕ → ℕ → Table
+missing_table quarters reference = chained_table None (missing quarters) (missing quarters) reference
 
 -- the table of a run, from its benchmarked years: without one every figure is missing
-abbrev pub table_of_years : List ℕ → List ℤ → List YearPart → Table
-table_of_years indicators benchmarks [] = missing_table (length indicators)
-table_of_years indicators benchmarks (year ∷ years) =
-    benchmarked_table indicators benchmarks (scale_of_years (year ∷ years)) (multipliers_of (scale_of_years (year ∷ years)) (year ∷ years)) (run_values (scale_of_years (year ∷ years)) (year ∷ years) (multipliers_of (scale_of_years (year ∷ years)) (year ∷ years)) indicators)
+abbrev pub table_of_years : List ℕ → List (Option ℕ) → List ℤ → ℕ → List YearPart → Table
+table_of_years indicators prices benchmarks reference [] = missing_table (length indicators) reference
+table_of_years indicators prices benchmarks reference (year ∷ years) =
+    benchmarked_table indicators prices benchmarks reference (scale_of_years (year ∷ years)) (multipliers_of (scale_of_years (year ∷ years)) (year ∷ years)) (run_values (scale_of_years (year ∷ years)) (year ∷ years) (multipliers_of (scale_of_years (year ∷ years)) (year ∷ years)) indicators)
 
--- the table of a leaf
-unfoldable pub leaf_table : List ℕ → List (Option ℤ) → Table
-leaf_table indicators benchmarks = table_of_years indicators (benchmark_run benchmarks) (years_of indicators (benchmark_run benchmarks))
+-- the table of a leaf, from its indicators, prices and benchmarks and the reference year counted from the first year
+unfoldable pub leaf_table : List ℕ → List (Option ℕ) → List (Option ℤ) → ℕ → Table
+leaf_table indicators prices benchmarks reference = table_of_years indicators prices (benchmark_run benchmarks) reference (years_of indicators (benchmark_run benchmarks))

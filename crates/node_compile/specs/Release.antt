@@ -1,36 +1,61 @@
 -- The compilation from scratch: the table of each item, from the last values of what was sent.
-use Rattle.std.specs.Prelude.{ℕ, ◌-◌, ◌*◌, ◌/◌, ℤ, List, map, sum, length, Option, unsigned_abs}
+use Rattle.std.specs.Prelude.{ℕ, ◌-◌, ◌*◌, ◌/◌, ℤ, List, map, sum, length, if◌then◌else◌, Option, None, unsigned_abs}
 use Rattle.std.specs.List.{range_with_len}
+use Rattle.std.specs.Option.{option_map}
 use Rattle.std.specs.Arc.{arc_value}
+use Rattle.aggregate_tree.specs.Leaves.{added}
+use Rattle.price_base.specs.declared.Cell.{Cell}
 use Rattle.series_tables.specs.Cells.{cells_from}
 use Rattle.series_tables.specs.LastValue.{run_of, last_value}
-use Rattle.series_tables.specs.Plan.{PlanShape}
+use Rattle.series_tables.specs.Plan.{PlanShape, is_leaf}
+use Rattle.series_tables.specs.Tree.{leaves_under}
 use Rattle.series_tables.specs.declared.input.Input.{Input}
 use Rattle.series_tables.specs.declared.input.Kind.{Kind}
-use Rattle.series_tables.specs.declared.input.Kind.TheVariants.{Indicator, Benchmark}
-use Rattle.node_compile.specs.Leaf.{benchmark_run, leaf_table}
+use Rattle.series_tables.specs.declared.input.Kind.TheVariants.{Indicator, Benchmark, Price}
+use Rattle.node_compile.specs.Leaf.{benchmark_run, leaf_table, chained_table}
 use Rattle.node_compile.specs.Table.{Table, table_in}
 use Rattle.node_compile.specs.declared.release.Release.{Release}
 
--- the table of an item, from what stands at each kind, leaf and period: the run of its indicators, and the benchmarks of the run's whole years
-abbrev pub item_table : (Kind → ℕ → ℕ → Option ℤ) → ℕ → Table
-item_table value_at item = leaf_table (map unsigned_abs (run_of (value_at Indicator item))) (cells_from (value_at Benchmark item) (length (run_of (value_at Indicator item)) / 4) 0)
+-- the table of a leaf, from what stands at each kind, leaf and period: the run of its indicators, the prices of the run's quarters, and the benchmarks of its
+-- whole years
+abbrev pub table_of_leaf : (Kind → ℕ → ℕ → Option ℤ) → ℕ → ℕ → Table
+table_of_leaf value_at reference leaf =
+    leaf_table (map unsigned_abs (run_of (value_at Indicator leaf))) (map (option_map unsigned_abs) (cells_from (value_at Price leaf) (length (run_of (value_at Indicator leaf))) 0)) (cells_from (value_at Benchmark leaf) (length (run_of (value_at Indicator leaf)) / 4) 0) reference
 
--- the number of an item's joints: one fewer than its benchmarked years
-abbrev pub joints_of : (Kind → ℕ → ℕ → Option ℤ) → ℕ → ℕ
-joints_of value_at item = length (benchmark_run (cells_from (value_at Benchmark item) (length (run_of (value_at Indicator item)) / 4) 0)) - 1
+-- the table of an inner item: its values and its volumes at previous-year prices are the sums of those of the leaves under it, quarter by quarter, and its
+-- chain is that of these sums. Chained volumes are not added up
+abbrev pub inner_table : List (List Cell) → List (List Cell) → ℕ → Table
+inner_table values volumes reference = chained_table None (added values) (added volumes) reference
 
--- the most steps that the solver takes for so many items: 192 a joint
-abbrev pub most_steps : (Kind → ℕ → ℕ → Option ℤ) → ℕ → ℕ
-most_steps value_at items = sum (map (λ item. 192 * joints_of value_at item) (range_with_len 0 items))
+-- the values, and the volumes, of some leaves
+abbrev pub values_of_leaves : (Kind → ℕ → ℕ → Option ℤ) → ℕ → List ℕ → List (List Cell)
+values_of_leaves value_at reference leaves = map (λ leaf. (table_of_leaf value_at reference leaf).value) leaves
 
--- the tables of so many items
-abbrev pub item_tables : (Kind → ℕ → ℕ → Option ℤ) → ℕ → List Table
-item_tables value_at items = map (item_table value_at) (range_with_len 0 items)
+abbrev pub volumes_of_leaves : (Kind → ℕ → ℕ → Option ℤ) → ℕ → List ℕ → List (List Cell)
+volumes_of_leaves value_at reference leaves = map (λ leaf. (table_of_leaf value_at reference leaf).prev) leaves
 
--- the compilation of a list of inputs: each item's table from the last values of the whole list. No item has a parent yet, so each is a leaf
+-- the table of an item of a plan
+abbrev pub item_table : (Kind → ℕ → ℕ → Option ℤ) → PlanShape → ℕ → Table
+item_table value_at plan item =
+    if is_leaf plan item then table_of_leaf value_at plan.reference item
+    else inner_table (values_of_leaves value_at plan.reference (leaves_under plan item)) (volumes_of_leaves value_at plan.reference (leaves_under plan item)) plan.reference
+
+-- the number of an item's joints: one fewer than its benchmarked years, and none for an inner item
+abbrev pub joints_of : (Kind → ℕ → ℕ → Option ℤ) → PlanShape → ℕ → ℕ
+joints_of value_at plan item =
+    if is_leaf plan item then length (benchmark_run (cells_from (value_at Benchmark item) (length (run_of (value_at Indicator item)) / 4) 0)) - 1 else 0
+
+-- the most steps that the solver takes for the items of a plan: 192 a joint
+abbrev pub most_steps : (Kind → ℕ → ℕ → Option ℤ) → PlanShape → ℕ
+most_steps value_at plan = sum (map (λ item. 192 * joints_of value_at plan item) (range_with_len 0 (length plan.names)))
+
+-- the tables of a plan's items
+abbrev pub item_tables : (Kind → ℕ → ℕ → Option ℤ) → PlanShape → List Table
+item_tables value_at plan = map (item_table value_at plan) (range_with_len 0 (length plan.names))
+
+-- the compilation of a list of inputs: each item's table from the last values of the whole list, chained from the plan's reference year
 unfoldable pub compilation : PlanShape → List Input → List Table
-compilation plan inputs = item_tables (last_value inputs) (length plan.names)
+compilation plan inputs = item_tables (last_value inputs) plan
 
 -- the tables that a release shows, item by item
 abbrev pub tables_in : Release → List Table

@@ -1,5 +1,7 @@
 -- The shape of an item's table.
 use Rattle.std.specs.Prelude.{◌≡◌, ℕ, ◌+◌, ◌*◌, ◌≤◌, ℤ, Bool, true, false, IsTrue, List, length, All}
+use Rattle.annual_overlap.specs.declared.ChainTable.{ChainTable}
+use Rattle.annual_overlap.specs.Years.{year_count}
 use Rattle.price_base.specs.declared.Cell.{Cell}
 use Rattle.price_base.specs.declared.Cell.TheVariants.{Value}
 
@@ -15,3 +17,8 @@ pub record IsBenchmarked (indicators : List ℕ) (benchmarks multipliers : List 
   pub whole_years : 4 * length benchmarks ≤ length values
   pub joints : length multipliers + 1 ≡ length benchmarks
   pub numbers : All (λ cell. IsTrue (is_number cell)) values
+
+-- the lists of a chain of so many quarters: a cell for each quarter, and in the other four one for each year that has one of them
+abbrev pub IsChainShaped : ChainTable → ℕ → Type 0
+IsChainShaped chain quarters =
+    (length chain.quarter ≡ quarters) × (length chain.value ≡ year_count quarters) × (length chain.prev ≡ year_count quarters) × (length chain.level ≡ year_count quarters) × (length chain.drift ≡ year_count quarters)

@@ -1,6 +1,7 @@
 -- What an item's table says, as plain numbers and cells.
 use Rattle.std.specs.Prelude.{ℕ, ℤ, List, Option}
 use Rattle.std.specs.Option.{option_map}
+use Rattle.annual_overlap.specs.declared.ChainTable.{ChainTable}
 use Rattle.price_base.specs.declared.Cell.{Cell}
 use Rattle.node_compile.specs.declared.table.LeafPart.{LeafPart}
 use Rattle.node_compile.specs.declared.table.NodeTable.{NodeTable}
@@ -13,15 +14,16 @@ pub record Certificate : Type 0 where
   pub multipliers : List ℤ
   pub gap : ℤ
 
--- an item's table: the certificate of a leaf that has a benchmarked year, the values and the volumes at previous-year prices
+-- an item's table: the certificate of a leaf that has a benchmarked year, the values, the volumes at previous-year prices, and their chain
 pub record Table : Type 0 where
   pub leaf : Option Certificate
   pub value : List Cell
   pub prev : List Cell
+  pub chain : ChainTable
 
 -- what the code's table says
 abbrev pub certificate_in : LeafPart → Certificate
 certificate_in part = record { indicators = part.ind.items; benchmarks = part.bench.items; scale = part.cert.scale; multipliers = part.cert.u.items; gap = part.cert.gap }
 
 abbrev pub table_in : NodeTable → Table
-table_in table = record { leaf = option_map certificate_in table.leaf; value = table.flows.value; prev = table.flows.prev }
+table_in table = record { leaf = option_map certificate_in table.leaf; value = table.flows.value; prev = table.flows.prev; chain = table.chain }

@@ -1,6 +1,8 @@
 //! The table of one leaf.
 
-ghost use Rattle.std.specs.Prelude.{◌≡◌, ◌≤◌, ◌<◌, ◌+◌, ◌-◌, ◌*◌, ◌^◌, pos, map, length, drop, ◌++◌, IfOk, EachIndex, All, slice_index, slice_index_or, ◌∷◌};
+ghost use Rattle.std.specs.Prelude.{◌≡◌, ◌≤◌, ◌<◌, ◌+◌, ◌-◌, ◌*◌, ◌^◌, pos, map, length, drop, ◌++◌, IfOk, EachIndex, All, slice_index, slice_index_or, ◌∷◌, unsigned_abs};
+ghost use Rattle.std.specs.Option.{ForSome, option_map};
+ghost use Rattle.annual_overlap.specs.Years.{IsSizedCell};
 ghost use Rattle.denton_parts.specs.Scale.{scale_of_years};
 ghost use Rattle.denton_parts.specs.Year.{IsIndicator, IsBenchmark, IsMultiplier};
 ghost use Rattle.denton_parts.specs.Years.{year_of, years_of, indicators_of};
@@ -9,45 +11,49 @@ ghost use Rattle.denton_solve.specs.Sweeps.{multipliers_of};
 ghost use Rattle.dual_cert.specs.Document.{AreQuarters};
 ghost use Rattle.dual_cert.specs.Parts.{BeginsWithYears};
 ghost use Rattle.price_base.specs.declared.Cell.TheVariants.{Value};
-ghost use Rattle.series_tables.specs.Ranges.{IsBenchmarkOrNone};
+ghost use Rattle.price_base.specs.Volumes.{volumes_of};
+ghost use Rattle.series_tables.specs.Ranges.{IsBenchmarkOrNone, IsPositiveOrNone};
 ghost use Rattle.node_compile.specs.Laws.{MeetsItsBenchmarks, IsWithinItsGap};
-ghost use Rattle.node_compile.specs.Leaf.{benchmark_run, run_values, missing, missing_table as missing_table_of, table_of_years, leaf_table};
-ghost use Rattle.node_compile.specs.Table.{table_in};
+ghost use Rattle.node_compile.specs.Leaf.{benchmark_run, run_values, missing_table as missing_table_of, chained_table, table_of_years, leaf_table};
+ghost use Rattle.node_compile.specs.Shape.{IsBenchmarked};
+ghost use Rattle.node_compile.specs.Table.{certificate_in, table_in};
 
+use crate::chaining::chained;
 use crate::table::{LeafPart, NodeTable};
 use denton_parts::{YearPart, scale_of};
 use denton_solve::{series, solve};
 use dual_cert::{Cert, gap_of};
 use extrapolate::carry;
 use period_keys::Year;
-use price_base::{Cell, Cells, NodeFlows};
+use price_base::{Cell, Cells, NodeFlows, at_previous_prices};
 use qna_base::{Memory, Steps};
 use series_tables::LeafInput;
 use std::alloc::Global;
 use std::sync::ledger::Ledger;
 
 /// The table of a leaf. Its benchmarked years are those before the first year without a benchmark; their values are the benchmarked series, and the
-/// quarters past them carry its last ratio forward. Without a benchmarked year all values are missing. Prices aren't used yet, so all volumes are
-/// missing, and nothing is linked to the reference year. The values meet the benchmarks, and no series that meets them is better by more than the
-/// table's gap. A step is one joint of one sweep of the solver.
+/// quarters past them carry its last ratio forward. Without a benchmarked year all values are missing. The volumes are those of the values at the
+/// average price of the year before, and the chain starts in `reference`, which is counted from the first year of the run. The values meet the
+/// benchmarks, and no series that meets them is better by more than the table's gap. Values are within 10^24, volumes within 10^15. A step is one joint of one sweep of the solver.
 pub fn compile_leaf<L: Ledger>(
     alloc: Global,
     input: &LeafInput,
     reference: Year,
     steps: &mut Steps<L>,
 ) -> Result<NodeTable, Memory>
-    ensures table { IfOk result (λ table. table_in table ≡ leaf_table input.now.ind.items input.now.bench.items) }
+    ensures table { IfOk result (λ table. table_in table ≡ leaf_table input.now.ind.items input.now.price.items input.now.bench.items reference.0) }
     ensures meets { IfOk result (λ table. MeetsItsBenchmarks (table_in table)) }
     ensures within { IfOk result (λ table. IsWithinItsGap (table_in table)) }
+    ensures value_sizes { IfOk result (λ table. All (IsSizedCell (10 ^ 24)) table.flows.value) }
+    ensures volume_sizes { IfOk result (λ table. All (IsSizedCell (10 ^ 15)) table.flows.prev) }
     ensures steps { steps.new ≤ steps.old + 192 * (length (benchmark_run input.now.bench.items) - 1) }
 {
-    let _ = reference;
     let bench = benchmarks_of(alloc, &input.bench)?;
     if bench.is_empty() {
-        return missing_table(alloc, input.ind.len());
+        return missing_table(alloc, input.ind.len(), reference);
     }
     let ind = Vec::from_slice(alloc, &input.ind)?;
-    benchmarked_table(alloc, ind, bench, steps)
+    benchmarked_table(alloc, ind, &input.price, bench, reference, steps)
 }
 
 // The benchmarks of the benchmarked years.
@@ -68,23 +74,25 @@ fn benchmarks_of(alloc: Global, bench: &[Option<i64>]) -> Result<Vec<i64>, Memor
 }
 
 // The table of a leaf without a benchmarked year.
-fn missing_table(alloc: Global, quarters: usize) -> Result<NodeTable, Memory>
+fn missing_table(alloc: Global, quarters: usize, reference: Year) -> Result<NodeTable, Memory>
     requires { quarters ≤ 256 }
-    ensures { IfOk result (λ table. table_in table ≡ missing_table_of quarters) }
+    ensures table { IfOk result (λ table. table_in table ≡ missing_table_of quarters reference.0) }
+    ensures value_sizes { IfOk result (λ table. All (IsSizedCell (10 ^ 24)) table.flows.value) }
+    ensures volume_sizes { IfOk result (λ table. All (IsSizedCell (10 ^ 15)) table.flows.prev) }
 {
     let value = vec![in alloc; Cell::Missing; quarters]?;
     let prev = vec![in alloc; Cell::Missing; quarters]?;
-    Ok(NodeTable {
-        leaf: None,
-        flows: NodeFlows::new(Cells::from(value), Cells::from(prev)),
-    })
+    let flows = NodeFlows::new(Cells::from(value), Cells::from(prev));
+    chained(alloc, None, flows, reference)
 }
 
 // The table of a leaf with benchmarked years.
 fn benchmarked_table<L: Ledger>(
     alloc: Global,
     ind: Vec<u32>,
+    prices: &[Option<u32>],
     bench: Vec<i64>,
+    reference: Year,
     steps: &mut Steps<L>,
 ) -> Result<NodeTable, Memory>
     requires some_year { 1 ≤ length bench.items }
@@ -92,7 +100,11 @@ fn benchmarked_table<L: Ledger>(
     requires few { length ind.items ≤ 256 }
     requires indicators { EachIndex ind.items (λ t. IsIndicator (slice_index ind.items t)) }
     requires benchmarks { EachIndex bench.items (λ year. IsBenchmark (slice_index_or bench.items year (pos 0))) }
-    ensures table { IfOk result (λ table. table_in table ≡ table_of_years ind.items bench.items (years_of ind.items bench.items)) }
+    requires as_many_prices { length prices.now ≡ length ind.items }
+    requires prices { All IsPositiveOrNone prices.now }
+    ensures table { IfOk result (λ table. table_in table ≡ table_of_years ind.items prices.now bench.items reference.0 (years_of ind.items bench.items)) }
+    ensures value_sizes { IfOk result (λ table. All (IsSizedCell (10 ^ 24)) table.flows.value) }
+    ensures volume_sizes { IfOk result (λ table. All (IsSizedCell (10 ^ 15)) table.flows.prev) }
     ensures steps { steps.new ≤ steps.old + 192 * (length bench.items - 1) }
 {
     let parts = years_from(alloc, &ind, &bench)?;
@@ -100,12 +112,9 @@ fn benchmarked_table<L: Ledger>(
     let u = solved(alloc, &parts, scale, steps)?;
     let values = values_of(alloc, &parts, scale, &u, &ind)?;
     let gap = gap_of(&parts, scale, &u, &ind, &values);
-    let flows = flows_of(alloc, &values)?;
+    let flows = flows_of(alloc, &values, prices)?;
     let cert = Cert { scale, u, gap };
-    Ok(NodeTable {
-        leaf: Some(LeafPart { ind, bench, cert }),
-        flows,
-    })
+    chained(alloc, Some(LeafPart { ind, bench, cert }), flows, reference)
 }
 
 // The benchmarked years of a run of quarters.
@@ -182,6 +191,7 @@ fn values_of(
     requires years { indicators_of parts.now ++ drop (4 * length parts.now) ind.now ≡ ind.now }
     ensures values { IfOk result (λ values. values.items ≡ run_values scale parts.now u.now ind.now) }
     ensures quarters { IfOk result (λ values. AreQuarters scale ind.now values.items) }
+    ensures sizes { IfOk result (λ values. All (λ value. unsigned_abs value ≤ 10 ^ 24) values.items) }
 {
     let mut values = vec![in alloc; 0; ind.len()]?;
     write_values(parts, scale, u, ind, &mut values);
@@ -202,6 +212,7 @@ fn write_values(parts: &[YearPart], scale: u8, u: &[i128], ind: &[u32], out: &mu
     requires room { length out.old ≡ length ind.now }
     ensures values { out.new ≡ run_values scale parts.now u.now ind.now }
     ensures quarters { AreQuarters scale ind.now out.new }
+    ensures sizes { All (λ value. unsigned_abs value ≤ 10 ^ 24) out.new }
 {
     let years = parts.len();
     let (_, later) = ind.split_at(4 * years);
@@ -223,14 +234,19 @@ fn multiplier_before_last(u: &[i128]) -> i128
     }
 }
 
-// Values as an item's flows, with no volume.
-fn flows_of(alloc: Global, values: &[i128]) -> Result<NodeFlows, Memory>
+// Values as an item's flows, with their volumes at these prices.
+fn flows_of(alloc: Global, values: &[i128], prices: &[Option<u32>]) -> Result<NodeFlows, Memory>
+    requires few { length values.now ≤ 256 }
+    requires sizes { All (λ value. unsigned_abs value ≤ 10 ^ 24) values.now }
+    requires as_many_prices { length prices.now ≡ length values.now }
+    requires prices { All IsPositiveOrNone prices.now }
     ensures value { IfOk result (λ flows. flows.value ≡ map Value values.now) }
-    ensures prev { IfOk result (λ flows. flows.prev ≡ missing (length values.now)) }
+    ensures prev { IfOk result (λ flows. flows.prev ≡ volumes_of values.now prices.now) }
 {
     let mut value = vec![in alloc; Cell::Missing; values.len()]?;
     write_cells(values, &mut value);
-    let prev = vec![in alloc; Cell::Missing; values.len()]?;
+    let mut prev = vec![in alloc; Cell::Missing; values.len()]?;
+    at_previous_prices(values, prices, &mut prev);
     Ok(NodeFlows::new(Cells::from(value), Cells::from(prev)))
 }
 

@@ -1,10 +1,13 @@
-//! The compilation of accounts: one leaf's table, and the tables of all items of a plan.
+//! The compilation of accounts: the table of one leaf, of one inner item, and of all items of a plan.
 #![tactic(auto)]
 
+mod chaining;
+mod inner;
 mod leaf;
 mod release;
 mod table;
 
+pub use inner::compile_inner;
 pub use leaf::compile_leaf;
 pub use release::{Release, compile_all};
 pub use table::{LeafPart, NodeTable};

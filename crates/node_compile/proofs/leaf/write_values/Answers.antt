@@ -2,11 +2,13 @@ use Rattle.std.proofs.Common.{◌≤◌, ◌*◌, ℕ, pos, List, length, get_or
 use Rattle.std.specs.List.{list_all}
 use Rattle.std.specs.Prelude.{slice_index}
 use Rattle.std.proofs.Common.{length-drop}
+use Rattle.denton_parts.proofs.Scales.{scale_least}
 use Rattle.denton_parts.specs.Scale.{fits_scale}
 use Rattle.denton_parts.specs.Years.{indicators_of, IsInReach}
 use Rattle.denton_parts.specs.declared.year.YearPart.{YearPart}
 use Rattle.denton_solve.specs.Conditions.{IsScaled}
 use Rattle.denton_solve.proofs.Scaled.{scaled, greatest_most}
+use Rattle.node_compile.proofs.Sizes.{values_within}
 use Rattle.node_compile.proofs.Values.{quarters_in_range, indicators_count}
 use Rattle.node_compile.proofs.leaf.write_values.Goals as goal
 
@@ -23,3 +25,6 @@ returns-clause-quarters c =
     let small : c.args.scale ≤ 15 = rw c.requires.scale (greatest_most 15 (λ k. list_all (fits_scale k) c.args.parts.now)) in
     quarters_in_range c.args.scale c.args.ind.now (indicators_of c.args.parts.now) (drop (4 * length c.args.parts.now) c.args.ind.now) c.series.new.out c.carry.new.out c.requires.years
     (omega (arith, indicators_count c.args.parts.now)) (omega (arith, length-drop (4 * length c.args.parts.now) c.args.ind.now)) small c.requires.few c.requires.indicators (λ t inside. c.series.ensures.reach t inside) (λ t inside. subst (λ (rest : List ℕ). IsInReach c.args.scale (slice_index rest t) (get_or c.carry.new.out t (pos 0))) c.split_at.ensures.back (c.carry.ensures.reach t inside))
+
+pub returns-clause-sizes : goal.returns-clause-sizes
+returns-clause-sizes c = values_within c.args.scale c.args.ind.now _ (rw c.requires.scale (scale_least c.args.parts.now)) (returns-clause-quarters c)

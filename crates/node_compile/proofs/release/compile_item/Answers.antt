@@ -1,26 +1,16 @@
-use Rattle.std.proofs.Common.{◌≤◌, ◌+◌, ◌*◌, ◌∙◌, ℕ, ap, subst}
+use Rattle.std.proofs.Common.{◌^◌, Global}
+use Rattle.std.specs.Arc.{arc_value}
+use Rattle.std.specs.declared.sync.Arc.{Arc}
 use Rattle.series_tables.specs.Cells.{cell}
 use Rattle.node_compile.specs.Table.{table_in}
 use Rattle.node_compile.specs.declared.table.NodeTable.{NodeTable}
-use Rattle.node_compile.proofs.Items.{input_table, input_joints}
+use Rattle.node_compile.proofs.Tree.{cells_behind}
 use Rattle.node_compile.proofs.release.compile_item.Goals as goal
 
-pub returns-in_err-table-clause-steps : goal.returns-in_err-table-clause-steps
-returns-in_err-table-clause-steps g c =
-    let joints = input_joints (cell c.args.tables.now) c.args.item c.in_ok-input.input.ind.items c.in_ok-input.input.price.items c.in_ok-input.input.bench.items c.in_ok-input.ensures in
-    subst (λ (n : ℕ). c.compile_leaf.new.steps ≤ c.args.steps.now + 192 * n) joints c.compile_leaf.ensures.steps
+pub inner_of_plan-requires-clause-values : goal.inner_of_plan-requires-clause-values
+inner_of_plan-requires-clause-values g c =
+    cells_behind (λ (node : Arc NodeTable Global). table_in (arc_value node)) (λ t. t.value) (10 ^ 24) (cell c.args.tables.now) c.args.plan.now _ c.args.behind.now c.requires.behind (λ item known. known.value)
 
-pub returns-in_err-new-clause-steps : goal.returns-in_err-new-clause-steps
-returns-in_err-new-clause-steps g c =
-    let joints = input_joints (cell c.args.tables.now) c.args.item c.in_ok-input.input.ind.items c.in_ok-input.input.price.items c.in_ok-input.input.bench.items c.in_ok-input.ensures in
-    subst (λ (n : ℕ). c.compile_leaf.new.steps ≤ c.args.steps.now + 192 * n) joints c.compile_leaf.ensures.steps
-
-pub returns-clause-table : goal.returns-clause-table
-returns-clause-table g c =
-    let made = input_table (cell c.args.tables.now) c.args.item c.in_ok-input.input.ind.items c.in_ok-input.input.price.items c.in_ok-input.input.bench.items c.in_ok-input.ensures in
-    ap (λ (table : NodeTable). table_in table) c.in_ok-new.ensures.ok ∙ c.in_ok-table.ensures.table ∙ made
-
-pub returns-clause-steps : goal.returns-clause-steps
-returns-clause-steps g c =
-    let joints = input_joints (cell c.args.tables.now) c.args.item c.in_ok-input.input.ind.items c.in_ok-input.input.price.items c.in_ok-input.input.bench.items c.in_ok-input.ensures in
-    subst (λ (n : ℕ). c.compile_leaf.new.steps ≤ c.args.steps.now + 192 * n) joints c.compile_leaf.ensures.steps
+pub inner_of_plan-requires-clause-volumes : goal.inner_of_plan-requires-clause-volumes
+inner_of_plan-requires-clause-volumes g c =
+    cells_behind (λ (node : Arc NodeTable Global). table_in (arc_value node)) (λ t. t.prev) (10 ^ 15) (cell c.args.tables.now) c.args.plan.now _ c.args.behind.now c.requires.behind (λ item known. known.prev)
