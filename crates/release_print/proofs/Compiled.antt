@@ -80,10 +80,10 @@ numbers_kept [] = refl
 numbers_kept (x ∷ xs) = ap (λ (rest : List ℤ). x ∷ rest) (numbers_kept xs)
 
 -- so is the certificate of a table of years
-years_stated : (name : List ℕ) (front start : ℕ) (indicators : List ℕ) (benchmarks : List ℤ) (years : List YearPart) → IsTrue (is_name name) → front ≤ 262144 → 1900 ≤ start → start ≤ 2200 → length indicators ≤ 256 → EachIndex indicators (λ t. IsIndicator (slice_index indicators t)) → EachIndex benchmarks (λ y. IsBenchmark (get_or benchmarks y (pos 0))) → length years ≡ length benchmarks → 4 * length benchmarks ≤ length indicators → indicators_of years ++ drop (4 * length years) indicators ≡ indicators →
-    IfSome (table_of_years indicators benchmarks years).leaf (λ certificate. IsStated name front start certificate (numbers_in (table_of_years indicators benchmarks years).value))
-years_stated name front start indicators benchmarks [] named fronts first last few each each_benchmark count room e = tt
-years_stated name front start indicators benchmarks (year ∷ years) named fronts first last few each each_benchmark count room e =
+years_stated : (name : List ℕ) (front start : ℕ) (indicators : List ℕ) (prices : List (Option ℕ)) (benchmarks : List ℤ) (reference : ℕ) (years : List YearPart) → IsTrue (is_name name) → front ≤ 262144 → 1900 ≤ start → start ≤ 2200 → length indicators ≤ 256 → EachIndex indicators (λ t. IsIndicator (slice_index indicators t)) → EachIndex benchmarks (λ y. IsBenchmark (get_or benchmarks y (pos 0))) → length years ≡ length benchmarks → 4 * length benchmarks ≤ length indicators → indicators_of years ++ drop (4 * length years) indicators ≡ indicators →
+    IfSome (table_of_years indicators prices benchmarks reference years).leaf (λ certificate. IsStated name front start certificate (numbers_in (table_of_years indicators prices benchmarks reference years).value))
+years_stated name front start indicators prices benchmarks reference [] named fronts first last few each each_benchmark count room e = tt
+years_stated name front start indicators prices benchmarks reference (year ∷ years) named fronts first last few each each_benchmark count room e =
     let k : ℕ = scale_of_years (year ∷ years) in
     let u : List ℤ = multipliers_of k (year ∷ years) in
     let x : List ℤ = run_values k (year ∷ years) u indicators in
@@ -110,15 +110,15 @@ years_stated name front start indicators benchmarks (year ∷ years) named front
     subst (λ (numbers : List ℤ). IsStated name front start certificate numbers) (sym (numbers_kept x)) (record { document = document; gap = refl })
 
 -- and that of a leaf's table
-leaf_stated : (name : List ℕ) (front start : ℕ) (indicators : List ℕ) (benchmarks : List (Option ℤ)) → IsTrue (is_name name) → front ≤ 262144 → 1900 ≤ start → start ≤ 2200 → All IsPositiveInRange indicators → All IsBenchmarkOrNone benchmarks → length benchmarks ≡ length indicators / 4 → length indicators ≤ 256 →
-    IfSome (leaf_table indicators benchmarks).leaf (λ certificate. IsStated name front start certificate (numbers_in (leaf_table indicators benchmarks).value))
+leaf_stated : (name : List ℕ) (front start : ℕ) (indicators : List ℕ) (prices : List (Option ℕ)) (benchmarks : List (Option ℤ)) (reference : ℕ) → IsTrue (is_name name) → front ≤ 262144 → 1900 ≤ start → start ≤ 2200 → All IsPositiveInRange indicators → All IsBenchmarkOrNone benchmarks → length benchmarks ≡ length indicators / 4 → length indicators ≤ 256 →
+    IfSome (leaf_table indicators prices benchmarks reference).leaf (λ certificate. IsStated name front start certificate (numbers_in (leaf_table indicators prices benchmarks reference).value))
 unfolding leaf_table
-leaf_stated name front start indicators benchmarks named fronts first last each_indicator each_benchmark years few =
+leaf_stated name front start indicators prices benchmarks reference named fronts first last each_indicator each_benchmark years few =
     let less = run_count benchmarks in
     let room : 4 * length (benchmark_run benchmarks) ≤ length indicators = omega arith in
     let count = years_count indicators (benchmark_run benchmarks) room in
     let begins = years_indicators indicators (benchmark_run benchmarks) room (λ t inside. each_indicator t 0 inside) in
-    years_stated name front start indicators (benchmark_run benchmarks) (years_of indicators (benchmark_run benchmarks)) named fronts first last few (λ t inside. each_indicator t 0 inside) (λ y inside. run_each benchmarks each_benchmark y inside) count room (ap (λ n. indicators_of (years_of indicators (benchmark_run benchmarks)) ++ drop (4 * n) indicators) count ∙ begins)
+    years_stated name front start indicators prices (benchmark_run benchmarks) reference (years_of indicators (benchmark_run benchmarks)) named fronts first last few (λ t inside. each_indicator t 0 inside) (λ y inside. run_each benchmarks each_benchmark y inside) count room (ap (λ n. indicators_of (years_of indicators (benchmark_run benchmarks)) ++ drop (4 * n) indicators) count ∙ begins)
 
 -- what the certificate of a leaf's table keeps
 pub record IsSound (name : List ℕ) (front start : ℕ) (certificate : Certificate) (values : List Cell) : Type 0 where
@@ -132,10 +132,10 @@ both_some None P Q R then p q = tt
 both_some (Some x) P Q R then p q = then x p q
 
 -- the certificate of a leaf's table keeps it
-pub leaf_sound : (name : List ℕ) (front start : ℕ) (indicators : List ℕ) (benchmarks : List (Option ℤ)) → IsTrue (is_name name) → front ≤ 262144 → 1900 ≤ start → start ≤ 2200 → All IsPositiveInRange indicators → All IsBenchmarkOrNone benchmarks → length benchmarks ≡ length indicators / 4 → length indicators ≤ 256 →
-    IfSome (leaf_table indicators benchmarks).leaf (λ certificate. IsSound name front start certificate (leaf_table indicators benchmarks).value)
-leaf_sound name front start indicators benchmarks named fronts first last each_indicator each_benchmark years few =
-    let table : Table = leaf_table indicators benchmarks in
+pub leaf_sound : (name : List ℕ) (front start : ℕ) (indicators : List ℕ) (prices : List (Option ℕ)) (benchmarks : List (Option ℤ)) (reference : ℕ) → IsTrue (is_name name) → front ≤ 262144 → 1900 ≤ start → start ≤ 2200 → All IsPositiveInRange indicators → All IsBenchmarkOrNone benchmarks → length benchmarks ≡ length indicators / 4 → length indicators ≤ 256 →
+    IfSome (leaf_table indicators prices benchmarks reference).leaf (λ certificate. IsSound name front start certificate (leaf_table indicators prices benchmarks reference).value)
+leaf_sound name front start indicators prices benchmarks reference named fronts first last each_indicator each_benchmark years few =
+    let table : Table = leaf_table indicators prices benchmarks reference in
     both_some table.leaf (λ certificate. IsStated name front start certificate (numbers_in table.value)) (λ certificate. MeetsBenchmarks certificate.benchmarks (pos 1) (numbers_in table.value)) (λ certificate. IsSound name front start certificate table.value)
     (λ certificate stated meets. record { document = stated.document; meets = meets; gap = stated.gap })
-    (leaf_stated name front start indicators benchmarks named fronts first last each_indicator each_benchmark years few) (leaf_worth indicators benchmarks each_indicator each_benchmark years).0
+    (leaf_stated name front start indicators prices benchmarks reference named fronts first last each_indicator each_benchmark years few) (leaf_worth indicators prices benchmarks reference each_indicator each_benchmark years).0

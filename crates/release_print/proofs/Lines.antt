@@ -8,7 +8,7 @@ use Rattle.cert_read.specs.Statement.{indicator_line, benchmark_line, value_line
 use Rattle.cert_read.specs.Content.{quarter_from, quarterly, yearly}
 use Rattle.node_compile.specs.Laws.{number_in, numbers_in}
 use Rattle.release_print.specs.Part.{AppendsPart}
-use Rattle.release_print.specs.Release.{value_line as cell_line, value_lines as cell_lines, item_lines, items_lines}
+use Rattle.release_print.specs.Release.{cell_line, cell_lines, year_line, year_lines, item_lines, items_lines}
 use Rattle.release_print.specs.Certificate.{statement_text, statements_text}
 use Rattle.release_print.proofs.Parts.{Wrote, wrote_some, wrote_more, from_place}
 
@@ -43,9 +43,27 @@ multipliers_more old mid new whole start i d xs inside w grown =
     let same : start + (i + 1) ≡ start + i + 1 = omega arith in
     rw same (wrote_more old mid new (statement_text (multiplier_line (start + i) (get_or xs i d))) (statements_text (yearly multiplier_line (start + i) (drop i xs))) (statements_text (yearly multiplier_line (start + i + 1) (drop (i + 1) xs))) whole w (rw (from_place xs i d inside) refl) grown)
 
-pub cells_part : (old mid new whole name : List ℕ) (start i : ℕ) (d : Cell) (xs : List Cell) → i < length xs → Wrote old mid (cell_lines start name i (drop i xs)) whole → AppendsPart mid new (cell_line start name i (get_or xs i d)) → AppendsPart old new whole
-cells_part old mid new whole name start i d xs inside w p =
-    wrote_some old mid new (cell_line start name i (get_or xs i d)) (cell_lines start name i (drop i xs)) (cell_lines start name (i + 1) (drop (i + 1) xs)) whole w (rw (from_place xs i d inside) refl) p
+pub cells_part : (old mid new whole word name : List ℕ) (start i : ℕ) (d : Cell) (xs : List Cell) → i < length xs → Wrote old mid (cell_lines word start name i (drop i xs)) whole → AppendsPart mid new (cell_line word start name i (get_or xs i d)) → AppendsPart old new whole
+cells_part old mid new whole word name start i d xs inside w p =
+    wrote_some old mid new (cell_line word start name i (get_or xs i d)) (cell_lines word start name i (drop i xs)) (cell_lines word start name (i + 1) (drop (i + 1) xs)) whole w (rw (from_place xs i d inside) refl) p
+
+-- the lines of the years from a place on are that of the year there and those of the years behind it
+pub years_next : (start i : ℕ) (name : List ℕ) (a b c d : Cell) (values volumes levels drifts : List Cell) → i < length values → length volumes ≡ length values → length levels ≡ length values → length drifts ≡ length values → year_lines (start + i) name (drop i values) (drop i volumes) (drop i levels) (drop i drifts) ≡ year_line (start + i) name (get_or values i a) (get_or volumes i b) (get_or levels i c) (get_or drifts i d) ++ year_lines (start + (i + 1)) name (drop (i + 1) values) (drop (i + 1) volumes) (drop (i + 1) levels) (drop (i + 1) drifts)
+years_next start i name a b c d values volumes levels drifts inside same_volumes same_levels same_drifts =
+    let in_volumes : i < length volumes = omega arith in
+    let in_levels : i < length levels = omega arith in
+    let in_drifts : i < length drifts = omega arith in
+    let next : start + (i + 1) ≡ start + i + 1 = omega arith in
+    rw (next, from_place values i a inside, from_place volumes i b in_volumes, from_place levels i c in_levels, from_place drifts i d in_drifts) refl
+
+pub years_part : (old mid new whole name : List ℕ) (start i : ℕ) (a b c d : Cell) (values volumes levels drifts : List Cell) → i < length values → length volumes ≡ length values → length levels ≡ length values → length drifts ≡ length values → Wrote old mid (year_lines (start + i) name (drop i values) (drop i volumes) (drop i levels) (drop i drifts)) whole → AppendsPart mid new (year_line (start + i) name (get_or values i a) (get_or volumes i b) (get_or levels i c) (get_or drifts i d)) → AppendsPart old new whole
+years_part old mid new whole name start i a b c d values volumes levels drifts inside same_volumes same_levels same_drifts w p =
+    wrote_some old mid new (year_line (start + i) name (get_or values i a) (get_or volumes i b) (get_or levels i c) (get_or drifts i d)) (year_lines (start + i) name (drop i values) (drop i volumes) (drop i levels) (drop i drifts)) (year_lines (start + (i + 1)) name (drop (i + 1) values) (drop (i + 1) volumes) (drop (i + 1) levels) (drop (i + 1) drifts)) whole w (years_next start i name a b c d values volumes levels drifts inside same_volumes same_levels same_drifts) p
+
+-- one more year's line is written
+pub years_more : (old mid new whole name : List ℕ) (start i : ℕ) (a b c d : Cell) (values volumes levels drifts : List Cell) → i < length values → length volumes ≡ length values → length levels ≡ length values → length drifts ≡ length values → Wrote old mid (year_lines (start + i) name (drop i values) (drop i volumes) (drop i levels) (drop i drifts)) whole → new ≡ mid ++ year_line (start + i) name (get_or values i a) (get_or volumes i b) (get_or levels i c) (get_or drifts i d) → Wrote old new (year_lines (start + (i + 1)) name (drop (i + 1) values) (drop (i + 1) volumes) (drop (i + 1) levels) (drop (i + 1) drifts)) whole
+years_more old mid new whole name start i a b c d values volumes levels drifts inside same_volumes same_levels same_drifts w grown =
+    wrote_more old mid new (year_line (start + i) name (get_or values i a) (get_or volumes i b) (get_or levels i c) (get_or drifts i d)) (year_lines (start + i) name (drop i values) (drop i volumes) (drop i levels) (drop i drifts)) (year_lines (start + (i + 1)) name (drop (i + 1) values) (drop (i + 1) volumes) (drop (i + 1) levels) (drop (i + 1) drifts)) whole w (years_next start i name a b c d values volumes levels drifts inside same_volumes same_levels same_drifts) grown
 
 -- the lines of the items from a place on are those of the item there and of those behind it
 pub items_next : {A : Type 0} (start item : ℕ) (names : List (List ℕ)) (name : List ℕ) (table_of : A → Table) (nodes : List A) (node : A) → slice_get names item ≡ Some name → item < length nodes → node ≡ get_or nodes item node → items_lines start (drop item names) (map table_of (drop item nodes)) ≡ item_lines start name (table_of node) ++ items_lines start (drop (item + 1) names) (map table_of (drop (item + 1) nodes))

@@ -31,10 +31,11 @@ pub fn printed_certificate_is_true()
     ensures { (doc : CertDoc) (start front : ℕ) (name : List ℕ) (certificate : Certificate) (values : List Cell) → content_of_document doc ≡ content_of start name front certificate values → MeetsBenchmarks certificate.benchmarks (pos 1) (numbers_in values) → certificate.gap ≡ gap_by (pos (10 ^ certificate.scale)) certificate.indicators (numbers_in values) (changes certificate.multipliers certificate.indicators) → MeetsAll doc × (doc.gap ≡ gap_of_document doc) }
 {}
 
-/// The printed certificate of a compiled leaf is read and true: for any indicators and benchmarks in range, at most 256 quarters of them, a name, a start year from
+/// The printed certificate of a compiled leaf is read and true: for any indicators and benchmarks in range, at most 256 quarters of them, any prices and
+/// reference year, a name, a start year from
 /// 1900 to 2200 and a front up to 262144, the certificate of the leaf's table, where a year is benchmarked, is read as what it says, and a document that says the same is one of which a check says yes.
 pub fn compiled_certificate_is_true()
-    ensures { (indicators : List ℕ) (benchmarks : List (Option ℤ)) (name : List ℕ) (start front : ℕ) → All IsPositiveInRange indicators → All IsBenchmarkOrNone benchmarks → length benchmarks ≡ length indicators / 4 → length indicators ≤ 256 → IsTrue (is_name name) → 1900 ≤ start → start ≤ 2200 → front ≤ 262144 → IfSome (leaf_table indicators benchmarks).leaf (λ certificate. IsReadAndTrue start name front certificate (leaf_table indicators benchmarks).value) }
+    ensures { (indicators : List ℕ) (prices : List (Option ℕ)) (benchmarks : List (Option ℤ)) (reference : ℕ) (name : List ℕ) (start front : ℕ) → All IsPositiveInRange indicators → All IsBenchmarkOrNone benchmarks → length benchmarks ≡ length indicators / 4 → length indicators ≤ 256 → IsTrue (is_name name) → 1900 ≤ start → start ≤ 2200 → front ≤ 262144 → IfSome (leaf_table indicators prices benchmarks reference).leaf (λ certificate. IsReadAndTrue start name front certificate (leaf_table indicators prices benchmarks reference).value) }
 {
     printed_certificate_is_read();
     printed_certificate_is_true();

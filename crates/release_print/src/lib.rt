@@ -10,7 +10,7 @@ pub use certificate::print_cert;
 pub use laws::{
     compiled_certificate_is_true, printed_certificate_is_read, printed_certificate_is_true,
 };
-pub use release::print_release;
+pub use release::{print_node, print_release};
 
 #[cfg(test)]
 mod tests;

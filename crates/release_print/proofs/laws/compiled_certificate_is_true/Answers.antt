@@ -4,9 +4,9 @@ use Rattle.release_print.proofs.Compiled.{leaf_sound}
 use Rattle.release_print.proofs.laws.compiled_certificate_is_true.Goals as goal
 
 pub returns : goal.returns
-returns c = λ indicators benchmarks name start front each_indicator each_benchmark years few named first last fronts.
-    IfSome_then (leaf_table indicators benchmarks).leaf (leaf_sound name front start indicators benchmarks named fronts first last each_indicator each_benchmark years few)
+returns c = λ indicators prices benchmarks reference name start front each_indicator each_benchmark years few named first last fronts.
+    IfSome_then (leaf_table indicators prices benchmarks reference).leaf (leaf_sound name front start indicators prices benchmarks reference named fronts first last each_indicator each_benchmark years few)
     (λ certificate sound. (
-      c.printed_certificate_is_read.ensures start front name certificate (leaf_table indicators benchmarks).value sound.document,
-      λ doc same. c.printed_certificate_is_true.ensures doc start front name certificate (leaf_table indicators benchmarks).value same sound.meets sound.gap,
+      c.printed_certificate_is_read.ensures start front name certificate (leaf_table indicators prices benchmarks reference).value sound.document,
+      λ doc same. c.printed_certificate_is_true.ensures doc start front name certificate (leaf_table indicators prices benchmarks reference).value same sound.meets sound.gap,
     ))

@@ -7,3 +7,6 @@ invariant-loop-period l = l.tables.leaves ≡ l.initial.tables.leaves
 
 abbrev pub invariant-loop-period-2 : goal.invariant-loop-period-2
 invariant-loop-period-2 l = l.tables.leaves ≡ l.initial.tables.leaves
+
+abbrev pub invariant-loop-period-3 : goal.invariant-loop-period-3
+invariant-loop-period-3 l = l.tables.leaves ≡ l.initial.tables.leaves

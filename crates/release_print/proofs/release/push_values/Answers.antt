@@ -1,9 +1,0 @@
-use Rattle.std.proofs.Common.{◌<◌, length, arith}
-use Rattle.release_print.proofs.Parts.{at_error}
-use Rattle.release_print.proofs.Lines.{cells_part}
-use Rattle.release_print.proofs.release.push_values.Goals as goal
-
-pub returns-in_err-push_value-clause-part : goal.returns-in_err-push_value-clause-part
-returns-in_err-push_value-clause-part c =
-    let inside : c.loop-quarter.quarter < length c.args.cells.now = omega arith in
-    at_error _ _ (cells_part _ _ _ _ c.args.name.now c.args.start c.loop-quarter.quarter _ c.args.cells.now inside c.loop-quarter.invariant c.in_err-push_value.ensures.part)

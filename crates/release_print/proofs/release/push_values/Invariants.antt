@@ -1,8 +1,0 @@
-use Rattle.std.proofs.Common.{drop}
-use Rattle.release_print.specs.Release.{value_lines}
-use Rattle.release_print.proofs.Parts.{Wrote}
-use Rattle.release_print.proofs.release.push_values.Given as goal
-
--- the lines so far are written, and those of what is left are to come
-abbrev pub invariant-loop-quarter : goal.invariant-loop-quarter
-invariant-loop-quarter l = Wrote l.fn.out.items l.out.items (value_lines l.start l.name l.quarter (drop l.quarter l.cells)) (value_lines l.start l.name 0 l.cells)
