@@ -16,7 +16,7 @@ pub fn plans() -> &'static [PlanCase] {
     &PLANS
 }
 
-static PLANS: [PlanCase; 26] = [
+static PLANS: [PlanCase; 36] = [
     PlanCase {
         plan: b"",
         report: b"plan,1,nostart\n",
@@ -103,19 +103,59 @@ static PLANS: [PlanCase; 26] = [
     },
     PlanCase {
         plan: b"start,2021\nitem,A,B\n",
-        report: b"plan,2,later\n",
+        report: b"plan,2,noparent\n",
     },
     PlanCase {
         plan: b"item,A,B\n",
-        report: b"plan,1,later\n",
+        report: b"plan,1,nostart\n",
     },
     PlanCase {
-        plan: b"start,2021\nreference,2021\n",
-        report: b"plan,2,later\n",
+        plan: b"start,2021\nitem,A,A\n",
+        report: b"plan,2,noparent\n",
     },
     PlanCase {
-        plan: b"reference,2021\n",
-        report: b"plan,1,later\n",
+        plan: b"start,2021\nitem,A,B\nitem,B,\n",
+        report: b"plan,2,noparent\n",
+    },
+    PlanCase {
+        plan: b"start,2021\nitem,A,\nitem,B,a\n",
+        report: b"plan,3,noparent\n",
+    },
+    PlanCase {
+        plan: b"start,2021\nitem,A,\nitem,B, A\n",
+        report: b"plan,3,noparent\n",
+    },
+    PlanCase {
+        plan: b"start,2021\nitem,A,\nitem,A,B\n",
+        report: b"plan,3,twice\n",
+    },
+    PlanCase {
+        plan: b"start,2021\nitem,A B,C\n",
+        report: b"plan,2,form\n",
+    },
+    PlanCase {
+        plan: b"start,2021\nitem,A,\nitem,B,A\nitem,C,B\nitem,D,E\n",
+        report: b"plan,5,noparent\n",
+    },
+    PlanCase {
+        plan: b"start,2021\nitem,A,\nitem,B,A,\n",
+        report: b"plan,3,form\n",
+    },
+    PlanCase {
+        plan: b"reference,2021\nstart,2021\n",
+        report: b"plan,1,nostart\n",
+    },
+    PlanCase {
+        plan: b"start,2021\nreference,2020\n",
+        report: b"plan,2,year\n",
+    },
+    PlanCase {
+        plan: b"start,2021\nreference,2085\n",
+        report: b"plan,2,year\n",
+    },
+    PlanCase {
+        plan: b"start,2021\nreference,2084\nreference,2085\n",
+        report: b"plan,3,twice\n",
     },
     PlanCase {
         plan: b"start,2021\nreference,21\n",

@@ -1,31 +1,32 @@
 -- Accepted inputs are in range, so what is compiled from them meets the benchmarks within the gap.
-use Rattle.std.proofs.Common.{◌≡◌, ◌≤◌, ◌<◌, ◌/◌, ◌^◌, ℕ, ℤ, pos, negsuc, ◌≤ℤ◌, Bool, true, false, ◌&&◌, ◌==◌, cond, List, [], ◌∷◌, length, map, take, get_or, Option, Some, None, refl, sym, ap, ◌∙◌, subst, arith, zero, suc, unsigned_abs}
+use Rattle.std.proofs.Common.{◌≡◌, ◌/◌, ℕ, ℤ, pos, negsuc, ◌≤ℤ◌, Bool, true, false, ◌&&◌, ◌==◌, cond, List, [], ◌∷◌, length, map, take, get_or, Option, Some, None, refl, sym, ap, ◌∙◌, subst, arith, zero, suc, unsigned_abs}
 use Rattle.std.specs.Prelude.{int_le, nat_lt, All, Result, Ok, Err}
 use Rattle.std.specs.List.{filter_map, cons_option, range_with_len, AllByRecursion}
+use Rattle.std.specs.Option.{option_map}
 use Rattle.std.proofs.lemmas.Int.{ints}
 use Rattle.std.proofs.lemmas.List.{length-map}
 use Rattle.std.proofs.lemmas.List.Elements.{All-map}
 use Rattle.line_form.specs.Lines.{TextLine, lines_of}
-use Rattle.series_tables.specs.Plan.{PlanShape, item_with_name}
+use Rattle.series_tables.specs.Plan.{PlanShape, is_leaf}
+use Rattle.series_tables.specs.Tree.{leaves_under}
 use Rattle.series_tables.specs.Cells.{cells_from}
 use Rattle.series_tables.specs.LastValue.{same_kind, speaks_of, last_from, last_value, run_from, run_of, periods_of, least_of, most_of}
-use Rattle.series_tables.specs.Ranges.{IsPositiveInRange, IsBenchmarkInRange, IsBenchmarkOrNone}
+use Rattle.series_tables.specs.Ranges.{IsPositiveInRange, IsBenchmarkOrNone}
 use Rattle.series_tables.specs.declared.input.Input.{Input}
 use Rattle.series_tables.specs.declared.input.Kind.{Kind}
 use Rattle.series_tables.specs.declared.input.Kind.TheVariants.{Indicator, Benchmark, Price}
 use Rattle.input_rules.specs.declared.judging.Refusal.{Refusal}
 use Rattle.input_rules.specs.declared.judging.Refusal.TheVariants.{Unknown, Zero, Range}
 use Rattle.input_rules.specs.declared.lines.Cause.{Cause}
-use Rattle.input_rules.specs.declared.lines.Judged.{Judged}
-use Rattle.input_rules.specs.declared.lines.Judged.TheVariants.{Taken}
-use Rattle.input_rules.specs.Judgement.{is_zero_indicator, is_in_range, judgement, judgement_of_leaf}
+use Rattle.input_rules.specs.Judgement.{leaf_with_name, is_zero_indicator, is_in_range, judgement, judgement_of_leaf}
 use Rattle.input_rules.specs.Requests.{SpelledInput, Asked, release, release_of, certificate_of, sync, meaning_of}
 use Rattle.input_rules.specs.Requests.{input as asks}
 use Rattle.input_rules.specs.Lines.{judged_input, judged_meaning, judged_line}
 use Rattle.input_rules.specs.Accepted.{most_inputs, judged_lines, taken, accepted_of, accepted}
 use Rattle.node_compile.specs.Laws.{MeetsItsBenchmarks, IsWithinItsGap}
-use Rattle.node_compile.specs.Leaf.{leaf_table}
-use Rattle.node_compile.specs.Release.{item_table, compilation}
+use Rattle.node_compile.specs.Release.{table_of_leaf, inner_table, values_of_leaves, volumes_of_leaves, item_table, compilation}
+use Rattle.node_compile.specs.Table.{Table}
+use Rattle.node_compile.proofs.Tree.{all_chained}
 use Rattle.node_compile.proofs.Worth.{leaf_worth}
 use Rattle.node_compile.proofs.Items.{cells_count}
 use Rattle.qna_cli.specs.Release.{ReleasesAreCertified}
@@ -50,7 +51,7 @@ in_range kind period value within = by_tests (nat_lt period (periods_of kind)) (
 
 -- an input that is judged right is in range
 judgement-range : (plan : PlanShape) (kind : Kind) (name : List ℕ) (period : Option ℕ) (value : ℤ) (input : Input) → judgement plan kind name period value ≡ Ok input → IsInRange input
-judgement-range plan kind name period value input e = by_leaf (item_with_name plan name) (is_zero_indicator kind value) period e
+judgement-range plan kind name period value input e = by_leaf (leaf_with_name plan name) (is_zero_indicator kind value) period e
   where
     by_range : (leaf place : ℕ) (test : Bool) → is_in_range kind place value ≡ test →
         ◌≡◌ {A = Result Input Refusal} (cond test (Ok (record { kind = kind; leaf = leaf; period = place; value = value })) (Err Range)) (Ok input) → IsInRange input
@@ -170,22 +171,37 @@ benchmarks-range value_at each zero from k d inside = absurd (omega arith)
 benchmarks-range value_at each (suc more) from zero d inside = each from
 benchmarks-range value_at each (suc more) from (suc k) d inside = benchmarks-range value_at each more (suc from) k d (omega arith)
 
--- what an item's table is worth
-item_worth : (plan : PlanShape) (text : List ℕ) (item : ℕ) → MeetsItsBenchmarks (item_table (last_value (accepted plan text)) item) × IsWithinItsGap (item_table (last_value (accepted plan text)) item)
-item_worth plan text item =
+-- what a leaf's table is worth
+leaf_of_text : (plan : PlanShape) (text : List ℕ) (item : ℕ) → MeetsItsBenchmarks (table_of_leaf (last_value (accepted plan text)) plan.reference item) × IsWithinItsGap (table_of_leaf (last_value (accepted plan text)) plan.reference item)
+leaf_of_text plan text item =
     let value_at : Kind → ℕ → ℕ → Option ℤ = last_value (accepted plan text) in
     let run : List ℤ = run_of (value_at Indicator item) in
     let years : length (cells_from (value_at Benchmark item) (length run / 4) 0) ≡ length (map unsigned_abs run) / 4 =
     cells_count (value_at Benchmark item) (length run / 4) 0 ∙ sym (ap (λ (n : ℕ). n / 4) (length-map run unsigned_abs)) in
-    leaf_worth (map unsigned_abs run) (cells_from (value_at Benchmark item) (length run / 4) 0)
+    leaf_worth (map unsigned_abs run) (map (option_map unsigned_abs) (cells_from (value_at Price item) (length run) 0)) (cells_from (value_at Benchmark item) (length run / 4) 0) plan.reference
     (indicators-range run (run-range (value_at Indicator item) (λ period value. value-range plan text Indicator item period value) 256 0))
     (benchmarks-range (value_at Benchmark item) (λ period value. value-range plan text Benchmark item period value) (length run / 4) 0)
     years
+
+-- what an item's table is worth: an inner item has no benchmarks of its own
+item_worth : (plan : PlanShape) (text : List ℕ) (item : ℕ) → MeetsItsBenchmarks (item_table (last_value (accepted plan text)) plan item) × IsWithinItsGap (item_table (last_value (accepted plan text)) plan item)
+item_worth plan text item = by_leaf (is_leaf plan item)
+  where
+    value_at : Kind → ℕ → ℕ → Option ℤ
+    value_at = last_value (accepted plan text)
+
+    table : Bool → Table
+    table b = cond b (table_of_leaf value_at plan.reference item) (inner_table (values_of_leaves value_at plan.reference (leaves_under plan item)) (volumes_of_leaves value_at plan.reference (leaves_under plan item)) plan.reference)
+
+    by_leaf : (b : Bool) → MeetsItsBenchmarks (table b) × IsWithinItsGap (table b)
+    by_leaf true = leaf_of_text plan text item
+    by_leaf false = (tt, tt)
 
 -- every release is certified
 pub releases_are_certified : ReleasesAreCertified
 unfolding ReleasesAreCertified compilation
 releases_are_certified plan text = (
-  All-map MeetsItsBenchmarks (item_table (last_value (accepted plan text))) (range_with_len 0 (length plan.names)) (λ k d inside. (item_worth plan text (get_or (range_with_len 0 (length plan.names)) k d)).0),
-  All-map IsWithinItsGap (item_table (last_value (accepted plan text))) (range_with_len 0 (length plan.names)) (λ k d inside. (item_worth plan text (get_or (range_with_len 0 (length plan.names)) k d)).1),
+  All-map MeetsItsBenchmarks (item_table (last_value (accepted plan text)) plan) (range_with_len 0 (length plan.names)) (λ k d inside. (item_worth plan text (get_or (range_with_len 0 (length plan.names)) k d)).0),
+  All-map IsWithinItsGap (item_table (last_value (accepted plan text)) plan) (range_with_len 0 (length plan.names)) (λ k d inside. (item_worth plan text (get_or (range_with_len 0 (length plan.names)) k d)).1),
+  all_chained (last_value (accepted plan text)) plan,
 )

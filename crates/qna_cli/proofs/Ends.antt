@@ -1,6 +1,6 @@
 -- How `batch` ends where nothing fails.
-use Rattle.std.proofs.Common.{◌≡◌, ◌≤◌, ◌<◌, ◌+◌, ◌⊎◌, ℕ, [], true, false, List, length, Option, Some, None, IfSome, inl, inr, refl, arith}
-use Rattle.std.specs.Prelude.{Result, Ok, Err, is_ok, IsTrue}
+use Rattle.std.proofs.Common.{◌≡◌, ◌≤◌, ◌<◌, ◌+◌, ℕ, true, false, List, length, Option, Some, IfSome, inl, inr, refl, arith}
+use Rattle.std.specs.Prelude.{Result, Ok, Err, is_ok}
 use Rattle.qna_edges.specs.Told.{AppendsPrefix}
 use Rattle.qna_edges.specs.declared.status.Status.{Status}
 use Rattle.qna_edges.specs.declared.status.Status.TheVariants.{Done, Memory, Usage, PlanFault, OpenFault, ReadFault, WriteFault, CheckNo, TooMuch}

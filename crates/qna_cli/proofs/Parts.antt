@@ -1,5 +1,5 @@
 -- Files and reports that didn't change, and reports that grew by refused lines and then by the line of a status.
-use Rattle.std.proofs.Common.{◌≡◌, ◌≤◌, ◌-◌, ℕ, List, length, take, Option, Some, None, inl, refl, sym, codes, []}
+use Rattle.std.proofs.Common.{◌≡◌, ◌≤◌, ℕ, List, length, take, Option, Some, None, inl, refl, sym, codes, []}
 use Rattle.std.specs.Prelude.{IfSome, Ok}
 use Rattle.std.specs.Io.KnownBytes.{Appends}
 use Rattle.std.specs.Io.KnownBytes.{Keeps}

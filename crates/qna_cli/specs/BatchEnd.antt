@@ -1,5 +1,5 @@
 -- What `batch` leaves, and why it ended as it did.
-use Rattle.std.specs.Prelude.{◌≡◌, ◌≤◌, ◌<◌, ◌+◌, ◌-◌, ◌⊎◌, ℕ, Bool, true, IsTrue, List, [], ◌∷◌, length, codes, Option, Some, None, IfSome, is_ok}
+use Rattle.std.specs.Prelude.{◌≡◌, ◌≤◌, ◌<◌, ◌+◌, ◌-◌, ◌⊎◌, ℕ, Bool, true, IsTrue, List, [], ◌∷◌, length, codes, Option, Some, IfSome, is_ok}
 use Rattle.std.specs.Io.KnownBytes.{Appends}
 use Rattle.qna_edges.specs.Count.{Rose}
 use Rattle.qna_edges.specs.Names.{SameAtAll, SameAtOthers}

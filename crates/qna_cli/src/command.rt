@@ -109,8 +109,9 @@ pub fn run_batch<C: Cabinet, K: Sink>(
     }
 }
 
-/// Law: whatever the plan and the accepted inputs, in every release each leaf's quarters add up to the benchmarks of its benchmarked years, and no series
-/// that meets these benchmarks has a sum of squared ratio changes smaller by more than the printed gap.
+/// Law: whatever the plan and the accepted inputs, in every release each leaf's quarters add up to the benchmarks of its benchmarked years, no series that meets
+/// these benchmarks has a sum of squared ratio changes smaller by more than the printed gap, and each item's chained volumes are the products of its annual links
+/// up to the printed drift, with quarters that add up to the level of a complete year.
 pub fn releases_are_certified()
     ensures { ReleasesAreCertified }
 {}

@@ -4,6 +4,7 @@ ghost use Rattle.std.specs.Prelude.{◌<◌};
 mod certificates;
 mod faults;
 mod limits;
+mod office;
 mod pieces;
 mod rows;
 

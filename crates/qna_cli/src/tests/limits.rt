@@ -51,7 +51,8 @@ fn a_plan_of_more_than_its_limit_is_too_much(rt: HostRuntime) -> Result<(), Fail
 fn a_plan_has_512_items_at_most(rt: HostRuntime) -> Result<(), Fail> {
     let alloc = rt.alloc();
     let input = b"ind,511,2021Q1,1\nind,512,2021Q1,1\n";
-    let release: &[u8] = b"release,1\nv,511,2021Q1,missing\nend,1\n";
+    let release: &[u8] =
+        b"release,1\nv,511,2021Q1,missing\nk,511,2021Q1,missing\nc,511,2021Q1,missing\na,511,2021,missing,missing,missing,missing\nend,1\n";
     let left = left_by_batch(alloc, &plan_of_items(alloc, 512)?, input, &WORKING)?;
     assert_left(&rt, &left, 0, Some(release), b"2,no,unknown\n")?;
     let left = left_by_batch(alloc, &plan_of_items(alloc, 513)?, input, &WORKING)?;
@@ -62,7 +63,8 @@ fn a_plan_has_512_items_at_most(rt: HostRuntime) -> Result<(), Fail> {
 fn input_past_the_last_that_is_accepted_is_refused(rt: HostRuntime) -> Result<(), Fail> {
     let alloc = rt.alloc();
     let plan = b"start,2021\nitem,A,\n";
-    let release: &[u8] = b"release,262144\nv,A,2021Q1,missing\nend,262144\n";
+    let release: &[u8] =
+        b"release,262144\nv,A,2021Q1,missing\nk,A,2021Q1,missing\nc,A,2021Q1,missing\na,A,2021,missing,missing,missing,missing\nend,262144\n";
     let full = repeated(alloc, b"", b"ind,A,2021Q1,1\n", 262_145)?;
     let input = repeated(
         alloc,

@@ -1,6 +1,5 @@
 use Rattle.std.proofs.Common.{◌≡◌, ◌+◌, ◌<◌, [], length, codes, Some, inr, rules}
 use Rattle.std.specs.Prelude.{IfSome, IsTrue}
-use Rattle.series_tables.specs.Plan.{plan_of}
 use Rattle.qna_parts.specs.StatusLine.{named_line}
 use Rattle.qna_cli.specs.Command.{SpellsPlan}
 use Rattle.qna_cli.proofs.Parts.{told_with_plan}

@@ -1,4 +1,4 @@
-use Rattle.std.proofs.Common.{◌≡◌, ◌-◌, List, ℕ, length, take, inl, inr}
+use Rattle.std.proofs.Common.{◌-◌, length, take, inr}
 use Rattle.input_rules.specs.Accepted.{accepted}
 use Rattle.qna_parts.specs.Intake.{refusals_text, ended_refusals_text}
 use Rattle.qna_cli.specs.Release.{release_of}

@@ -1,0 +1,164 @@
+// An office's input of nine years: twelve items with prices in three groups, sent by two desks, with raises that come late.
+
+ghost use Rattle.std.specs.Prelude.{◌<◌, length};
+
+use super::{WORKING, left_by_batch};
+use itoa::Buffer;
+use std::alloc::Global;
+use std::test::Fail;
+
+/// The items that the first desk sends.
+const FIRST_DESK: [u16; 6] = [1, 3, 5, 7, 9, 11];
+
+/// The items that the second desk sends.
+const SECOND_DESK: [u16; 6] = [2, 4, 6, 8, 10, 12];
+
+/// The quarters of a year.
+const QUARTERS: [&[u8]; 4] = [b"Q1", b"Q2", b"Q3", b"Q4"];
+
+/// Three groups of four items each, under one total.
+const PLAN: &[u8] =
+    b"start,2015\nreference,2019\nitem,TOTAL,\nitem,G1,TOTAL\nitem,G2,TOTAL\nitem,G3,TOTAL\nitem,L1,G1\nitem,L2,G1\nitem,L3,G1\nitem,L4,G1\nitem,L5,G2\nitem,L6,G2\nitem,L7,G2\nitem,L8,G2\nitem,L9,G3\nitem,L10,G3\nitem,L11,G3\nitem,L12,G3\n";
+
+/// The years of the total.
+const TOTAL_YEARS: &[u8] =
+    b"a,TOTAL,2015,12804000,12804001,138150379247,7\na,TOTAL,2016,13015680,12763707,137715632822,5\na,TOTAL,2017,13227360,12976165,137297534557,3\na,TOTAL,2018,13439040,13188579,136894994996,1\na,TOTAL,2019,13650720,13400970,136507200000,0\na,TOTAL,2020,13862400,13613329,136133290000,1\na,TOTAL,2021,14074080,13825672,135772609059,2\na,TOTAL,2022,14285760,14037998,135424526109,3\na,TOTAL,2023,14497440,14250291,135088291109,4\n";
+
+/// The years of the last item, its gap, and the end.
+const LAST_LINES: &[u8] =
+    b"a,L12,2015,1124200,1124200,12129220643,7\na,L12,2016,1141840,1119747,12081176327,5\na,L12,2017,1159480,1137473,12034971520,3\na,L12,2018,1177120,1155193,11990474053,1\na,L12,2019,1194760,1172911,11947600000,0\na,L12,2020,1212400,1190628,11906280000,1\na,L12,2021,1230040,1208341,11866418906,2\na,L12,2022,1247680,1226050,11827926653,3\na,L12,2023,1265320,1243760,11790765304,4\ng,L12,9,11,721974709168175\nend,996\n";
+
+/// The indicator of an item in a quarter, counted from 0.
+fn indicator(item: u16, quarter: u64) -> u64
+    requires { quarter < 36 }
+    ensures { result < 10000000 }
+{
+    9_540 + 40 * quarter + 100 * u64::from(item)
+}
+
+/// The price of an item in a quarter, counted from 0: an index in hundredths.
+fn price(item: u16, quarter: u64) -> u64
+    requires { quarter < 36 }
+{
+    10_050 + 50 * quarter + u64::from(item)
+}
+
+/// The benchmark of an item in a year, counted from 0: 26 times the sum of its four indicators, and 1,000 more each year.
+fn benchmark(item: u16, year: u64) -> u64
+    requires { year < 9 }
+{
+    let sum = 38_400 + 640 * year + 400 * u64::from(item);
+    26 * sum + 1_000 * (year + 1)
+}
+
+/// Adds a number's digits.
+fn push_number(bytes: &mut Vec<u8>, number: u64) -> Result<(), Fail> {
+    let mut buffer = Buffer::new();
+    bytes.extend_from_slice(buffer.format(number).as_bytes())?;
+    Ok(())
+}
+
+/// Adds the line of an item's value in a year, counted from 0, or in a quarter of it.
+fn push_line(
+    bytes: &mut Vec<u8>,
+    kind: &[u8],
+    item: u16,
+    year: u64,
+    quarter: &[u8],
+    value: u64,
+) -> Result<(), Fail>
+    requires { year < 9 }
+{
+    bytes.extend_from_slice(kind)?;
+    bytes.extend_from_slice(b",L")?;
+    push_number(bytes, u64::from(item))?;
+    bytes.push(b',')?;
+    push_number(bytes, 2_015 + year)?;
+    bytes.extend_from_slice(quarter)?;
+    bytes.push(b',')?;
+    push_number(bytes, value)?;
+    bytes.push(b'\n')?;
+    Ok(())
+}
+
+/// Adds the lines of an item's year: four indicators, four prices and a benchmark.
+fn push_year(bytes: &mut Vec<u8>, item: u16, year: u64) -> Result<(), Fail>
+    requires { year < 9 }
+{
+    'quarters: for place in 0..4_u8 {
+        let quarter = 4 * year + u64::from(place);
+        let name = QUARTERS[place as usize];
+        push_line(bytes, b"ind", item, year, name, indicator(item, quarter))?;
+        push_line(bytes, b"price", item, year, name, price(item, quarter))?;
+    }
+    push_line(bytes, b"bench", item, year, b"", benchmark(item, year))
+}
+
+/// Adds the lines of an item's nine years.
+fn push_item(bytes: &mut Vec<u8>, item: u16) -> Result<(), Fail> {
+    'years: for year in 0..9 {
+        push_year(bytes, item, year)?;
+    }
+    Ok(())
+}
+
+/// Adds the lines that raise the last four indicators of an item by 15.
+fn push_raises(bytes: &mut Vec<u8>, item: u16) -> Result<(), Fail> {
+    'quarters: for place in 0..4_u8 {
+        let raised = indicator(item, 32 + u64::from(place)) + 15;
+        push_line(bytes, b"ind", item, 8, QUARTERS[place as usize], raised)?;
+    }
+    Ok(())
+}
+
+/// The lines of the first desk: its items, and then its raises.
+fn push_first_desk(bytes: &mut Vec<u8>) -> Result<(), Fail> {
+    'items: for item in FIRST_DESK {
+        push_item(bytes, item)?;
+    }
+    'raises: for item in FIRST_DESK {
+        push_raises(bytes, item)?;
+    }
+    bytes.extend_from_slice(b"sync\nrelease\n")?;
+    Ok(())
+}
+
+/// The lines of the second desk.
+fn push_second_desk(bytes: &mut Vec<u8>) -> Result<(), Fail> {
+    'items: for item in SECOND_DESK {
+        push_item(bytes, item)?;
+    }
+    bytes.extend_from_slice(b"release\ncert,L2\n")?;
+    Ok(())
+}
+
+/// Whether the cell of some line is a mark: a word behind a comma.
+fn has_mark(release: &[u8]) -> bool {
+    release
+        .windows(2)
+        .any(|pair| matches!(pair, [b',', b'a'..=b'z']))
+}
+
+/// Whether a text stands somewhere in a release.
+fn contains(release: &[u8], text: &[u8]) -> bool
+    requires { 0 < length text.now }
+{
+    release.windows(text.len()).any(|window| window == text)
+}
+
+#[test]
+fn an_office_gets_a_release_without_marks(rt: HostRuntime) -> Result<(), Fail> {
+    let alloc = rt.alloc();
+    let mut input = Vec::new(alloc);
+    push_first_desk(&mut input)?;
+    push_second_desk(&mut input)?;
+    let left = left_by_batch(alloc, PLAN, &input, &WORKING)?;
+    let release = left.output.ok_or("no release")?;
+    assert_eq!(rt; left.status.number(), 0);
+    assert!(rt; left.report.is_empty());
+    assert!(rt; release.starts_with(b"release,996\n"));
+    assert!(rt; release.ends_with(LAST_LINES));
+    assert!(rt; contains(&release, TOTAL_YEARS));
+    assert!(rt; !has_mark(&release));
+    Ok(())
+}
