@@ -4,8 +4,8 @@
 #     bench/batch.sh [SEED]
 #
 # One input has 262,144 lines for the quarters of one leaf, so that reading, judging and storing are all that it costs; one has nine lines for each of 64 years of
-# 455 leaves, so that the compilation is; one is 64 MiB of comments, so that the cutting of lines is. Where valgrind is there, the instructions of the first are
-# counted too, and told for each line.
+# the 384 leaves of a tree of 512 items, four under each, so that the compilation is; one is 64 MiB of comments, so that the cutting of lines is. Where valgrind
+# is there, the instructions of the first two are counted too.
 set -e
 seed=${1:-1}
 here=$(cd "$(dirname "$0")/.." && pwd)
@@ -18,9 +18,9 @@ cd "$folder"
 printf 'start,2021\nitem,FOOD,\n' > one.csv
 awk -v x="$seed" 'BEGIN { for (n = 0; n < 262144; n++) { x = (x * 16807) % 2147483647; printf "ind,FOOD,%dQ%d,%d\n", 2021 + int(n / 4) % 64, n % 4 + 1, 1000 + x % 1000 } }' > lines.csv
 
-awk 'BEGIN { print "start,2000"; for (i = 0; i < 455; i++) printf "item,N%03d,\n", i }' > many.csv
+awk 'BEGIN { print "start,2000"; print "reference,2031"; print "item,N000,"; for (i = 1; i < 512; i++) printf "item,N%03d,N%03d\n", i, int((i - 1) / 4) }' > tree.csv
 awk -v x="$seed" 'function draw() { x = (x * 16807) % 2147483647; return x }
-    BEGIN { for (i = 0; i < 455; i++) for (y = 2000; y < 2064; y++) {
+    BEGIN { for (i = 128; i < 512; i++) for (y = 2000; y < 2064; y++) {
         for (q = 1; q <= 4; q++) { printf "ind,N%03d,%dQ%d,%d\n", i, y, q, 1000 + draw() % 1000; printf "price,N%03d,%dQ%d,%d\n", i, y, q, 900000 + draw() % 200001 }
         printf "bench,N%03d,%d,%d\n", i, y, 4000 + draw() % 4001 } }' > leaves.csv
 
@@ -34,10 +34,14 @@ timed() {
     echo "$1: $(wc -c < "$3") bytes, $(wc -l < "$3") lines, $(( (end - start) / 1000000 )) ms, $(wc -c < release.csv) bytes out, $(wc -l < report.txt) lines refused"
 }
 timed "one leaf" one.csv lines.csv
-timed "455 leaves" many.csv leaves.csv
+timed "512 items" tree.csv leaves.csv
 timed "comments" one.csv comments.csv
 
+counted() {
+    valgrind --tool=callgrind --callgrind-out-file=callgrind.out "$program" batch "$1" "$2" counted.csv 2>&1 >/dev/null | sed -n 's/.*Collected : //p'
+}
 if command -v valgrind > /dev/null 2>&1; then
-    counted=$(valgrind --tool=callgrind --callgrind-out-file=callgrind.out "$program" batch one.csv lines.csv counted.csv 2>&1 >/dev/null | sed -n 's/.*Collected : //p')
-    echo "one leaf: $counted instructions, $(( counted / 262144 )) a line"
+    lines=$(counted one.csv lines.csv)
+    echo "one leaf: $lines instructions, $(( lines / 262144 )) a line"
+    echo "512 items: $(counted tree.csv leaves.csv) instructions"
 fi
