@@ -1,5 +1,5 @@
 -- The lines of a stream of bytes, and how far a cutting of it has come.
-use Rattle.std.specs.Prelude.{ℕ, ◌+◌, ◌-◌, ◌^◌, ◌≡◌, Bool, true, false, ◌==◌, min, nat_le, if◌then◌else◌, List, [], ◌∷◌, ◌++◌, length, take, map}
+use Rattle.std.specs.Prelude.{ℕ, ◌+◌, ◌-◌, ◌^◌, ◌≡◌, Bool, true, false, not, ◌&&◌, ◌==◌, min, nat_le, if◌then◌else◌, List, [], ◌∷◌, ◌++◌, length, take, map}
 use Rattle.csv.specs.Machine.{line_feed, carriage_return}
 use Rattle.csv.specs.Reading.{strip_bom}
 use Rattle.line_form.specs.declared.cutting.Line.{Line}
@@ -19,6 +19,15 @@ line_view l = record { number = l.number; long = l.long; text = l.text.items }
 
 abbrev pub lines_view : List Line → List TextLine
 lines_view = map line_view
+
+-- whether a line's bytes are none, or begin with a number sign
+abbrev pub is_comment : List ℕ → Bool
+is_comment [] = true
+is_comment (b ∷ bs) = b == 35
+
+-- whether a line is passed over: an empty one and a comment are, a long one never
+abbrev pub is_passed_over : TextLine → Bool
+is_passed_over line = not line.long && is_comment line.text
 
 -- the pieces of a stream that a line feed ends, where `piece` stands before the stream
 unfoldable pub ended_from : List ℕ → List ℕ → List (List ℕ)

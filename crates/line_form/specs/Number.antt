@@ -1,15 +1,12 @@
 -- The number that a field spells, and the number cut to bounds.
-use Rattle.std.specs.Prelude.{ℕ, ◌+◌, ◌-◌, ◌*◌, ℤ, pos, neg_ℤ, Bool, ◌&&◌, ◌==◌, nat_le, if◌then◌else◌, List, [], ◌∷◌, Option, Some, None, option_map}
+use Rattle.std.specs.Prelude.{ℕ, ◌+◌, ◌-◌, ◌*◌, ℤ, pos, neg_ℤ, ◌==◌, if◌then◌else◌, List, [], ◌∷◌, Option, Some, None, option_map}
+use Rattle.std.specs.Char.{is_ascii_digit}
 use Rattle.std.specs.Int.{int_min, int_max}
-
--- whether a byte is a decimal digit
-abbrev pub is_digit : ℕ → Bool
-is_digit c = nat_le 48 c && nat_le c 57
 
 -- the number that digits spell behind a number; none where a byte is no digit
 abbrev pub digits_from : ℕ → List ℕ → Option ℕ
 digits_from n [] = Some n
-digits_from n (c ∷ cs) = if is_digit c then digits_from (10 * n + (c - 48)) cs else None
+digits_from n (c ∷ cs) = if is_ascii_digit c then digits_from (10 * n + (c - 48)) cs else None
 
 -- the number that one digit or more spells
 abbrev pub magnitude_of : List ℕ → Option ℕ

@@ -4,7 +4,7 @@ ghost use Rattle.std.specs.Prelude.{◌≡◌, ◌≤◌, ◌<◌, ◌+◌, ◌+
 ghost use Rattle.std.specs.Option.{option_to_list};
 ghost use Rattle.std.specs.Vec.{vec_capacity};
 ghost use Rattle.csv.specs.Reading.{strip_bom};
-ghost use Rattle.line_form.specs.Lines.{TextLine, line_view, lines_view, ended_from, rest_from, without_return, line_at, unmarked, next_number, numbered, number_after, last_piece, kept_most};
+ghost use Rattle.line_form.specs.Lines.{TextLine, line_view, lines_view, ended_from, rest_from, without_return, line_at, unmarked, next_number, numbered, number_after, last_piece, kept_most, is_comment as is_comment_of, is_passed_over as is_passed_over_of};
 
 use memchr::memchr;
 use qna_base::Memory;
@@ -27,6 +27,23 @@ pub struct Line {
     pub long: bool,
     /// The line's bytes without its end; none of a long line.
     pub text: Vec<u8>,
+}
+
+/// Whether a line is passed over: an empty one and one whose first byte is `#` are, a long one never.
+pub fn is_passed_over(line: &Line) -> bool
+    ensures { result ≡ is_passed_over_of (line_view line.now) }
+{
+    !line.long && is_comment(&line.text)
+}
+
+/// Whether a line's bytes are none, or begin with a number sign.
+fn is_comment(text: &[u8]) -> bool
+    ensures { result ≡ is_comment_of text.now }
+{
+    match text {
+        [] => true,
+        [first, ..] => *first == b'#',
+    }
 }
 
 /// A stream of bytes that comes in any pieces, cut into its lines.

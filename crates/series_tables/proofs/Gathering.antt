@@ -7,7 +7,6 @@ use Rattle.std.proofs.lemmas.List.Elements.{filter_map-append}
 use Rattle.series_tables.specs.declared.cause.PlanCause.TheVariants.{NoStart, Twice, Year, NoParent, TooMany}
 use Rattle.series_tables.specs.PlanLine.{PlanEntry, start_entry, reference_entry, item_entry}
 use Rattle.series_tables.specs.Plan.{Gathered, gathered, earliest, start_year, reference_year, item_name, parent_among, parents_from, cause_of_entry, is_second, is_early, is_out_of_range, is_orphan, is_past_last}
-use Rattle.series_tables.specs.PlanEntries.{IsFree}
 use Rattle.series_tables.specs.PlanReading.{with_entry}
 
 -- where the first cause that applies is none, none applies
@@ -22,6 +21,13 @@ no_cause false false false false true h = cc
 no_cause false false false false false h = (refl, refl, refl, refl)
 
 -- what an entry meets that isn't refused
+pub record IsFree (before : Gathered) (entry : PlanEntry) : Type 0 where
+  pub late : is_early before entry ≡ false
+  pub single : is_second before entry ≡ false
+  pub within : is_out_of_range before entry ≡ false
+  pub few : is_past_last before entry ≡ false
+
+-- an entry that isn't refused meets it
 pub free_entry : (before : Gathered) (entry : PlanEntry) → cause_of_entry before entry ≡ None → IsFree before entry
 unfolding cause_of_entry
 free_entry before entry h =

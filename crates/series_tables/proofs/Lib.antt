@@ -1,5 +1,7 @@
+pub mod Distinct
 pub mod Entries
 pub mod Gathering
+pub mod Kept
 pub mod Outcomes
 pub mod Parents
 pub mod Waiting

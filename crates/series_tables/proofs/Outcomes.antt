@@ -4,11 +4,11 @@ use Rattle.std.specs.Option.{option_map}
 use Rattle.std.specs.List.{filter_map}
 use Rattle.std.proofs.lemmas.List.{append-nil, length-append}
 use Rattle.std.proofs.lemmas.List.Elements.{filter_map-append}
-use Rattle.line_form.specs.Lines.{TextLine, lines_of, next_number}
+use Rattle.line_form.specs.Lines.{TextLine, lines_of, next_number, is_passed_over}
 use Rattle.series_tables.specs.declared.cause.PlanCause.{PlanCause}
 use Rattle.series_tables.specs.declared.cause.PlanError.{PlanError}
 use Rattle.series_tables.specs.declared.cause.PlanError.TheVariants.{Fault, Memory}
-use Rattle.series_tables.specs.PlanLine.{PlanEntry, said, is_passed_over}
+use Rattle.series_tables.specs.PlanLine.{PlanEntry, said}
 use Rattle.series_tables.specs.Plan.{PlanShape, PlanRefusal, gathered, given, cause_of, refusal_of, parents_from, first_refusal, plan_of_all, unless_refused, plan_of}
 use Rattle.series_tables.specs.PlanError.{Refuses, IsCauseAt}
 use Rattle.series_tables.specs.PlanReading.{Progress, nothing, with_said, outcome}

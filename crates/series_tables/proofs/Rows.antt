@@ -22,23 +22,23 @@ all_none {X} P n k d below x e =
     different y same = cc
 
 -- rows with no value
-pub rows_of_none : (leaves : ℕ) (indicators prices : List (Option ℕ)) (benchmarks : List (Option ℤ)) → leaves ≤ 512 →
-    indicators ≡ replicate (leaves * 256) None → prices ≡ replicate (leaves * 256) None → benchmarks ≡ replicate (leaves * 64) None →
-    AreRows leaves indicators prices benchmarks
-rows_of_none leaves indicators prices benchmarks few i p b = record {
+pub rows_of_none : (items : ℕ) (indicators prices : List (Option ℕ)) (benchmarks : List (Option ℤ)) → items ≤ 512 →
+    indicators ≡ replicate (items * 256) None → prices ≡ replicate (items * 256) None → benchmarks ≡ replicate (items * 64) None →
+    AreRows items indicators prices benchmarks
+rows_of_none items indicators prices benchmarks few i p b = record {
   few = few;
-  quarters = rw i (length-replicate (leaves * 256) None);
-  priced = rw p (length-replicate (leaves * 256) None);
-  years = rw b (length-replicate (leaves * 64) None);
-  indicators_in_range = rw i (all_none IsPositiveInRange (leaves * 256));
-  prices_in_range = rw p (all_none IsPositiveInRange (leaves * 256));
-  benchmarks_in_range = rw b (all_none IsBenchmarkInRange (leaves * 64));
+  quarters = rw i (length-replicate (items * 256) None);
+  priced = rw p (length-replicate (items * 256) None);
+  years = rw b (length-replicate (items * 64) None);
+  indicators_in_range = rw i (all_none IsPositiveInRange (items * 256));
+  prices_in_range = rw p (all_none IsPositiveInRange (items * 256));
+  benchmarks_in_range = rw b (all_none IsBenchmarkInRange (items * 64));
 }
 
 -- rows with one more benchmark
-pub rows_with_benchmark : (leaves : ℕ) (indicators prices : List (Option ℕ)) (benchmarks : List (Option ℤ)) (at : ℕ) (value : ℤ) →
-    AreRows leaves indicators prices benchmarks → IsBenchmarkInRange value → AreRows leaves indicators prices (set benchmarks at (Some value))
-rows_with_benchmark leaves indicators prices benchmarks at value rows within = record {
+pub rows_with_benchmark : (items : ℕ) (indicators prices : List (Option ℕ)) (benchmarks : List (Option ℤ)) (at : ℕ) (value : ℤ) →
+    AreRows items indicators prices benchmarks → IsBenchmarkInRange value → AreRows items indicators prices (set benchmarks at (Some value))
+rows_with_benchmark items indicators prices benchmarks at value rows within = record {
   few = rows.few;
   quarters = rows.quarters;
   priced = rows.priced;
@@ -82,39 +82,39 @@ cells_of_row show (place ∷ rest) value_at from same =
     (cells_of_row show rest value_at (suc from) (λ k below. subst (λ (at : ℕ). value_at at ≡ show (get_or rest k None)) (omega arith) (same (suc k) (omega arith)))))
 
 -- what stands at a place of a leaf's row
-pub place_in_row : {X : Type 0} (rows : List (Option X)) (width leaf leaves n k : ℕ) → length rows ≡ leaves * width → leaf < leaves → n ≤ width → k < n →
+pub place_in_row : {X : Type 0} (rows : List (Option X)) (width leaf items n k : ℕ) → length rows ≡ items * width → leaf < items → n ≤ width → k < n →
     at_place rows width leaf k ≡ get_or (take n (drop (leaf * width) rows)) k None
-place_in_row rows width leaf leaves n k len below few within =
+place_in_row rows width leaf items n k len below few within =
     let inside : nat_lt k width ≡ true = lt-ltb k width (omega arith) in
     rw (inside, get_or-take n (drop (leaf * width) rows) k None within, get_or-drop (leaf * width) rows k None) refl
 
 -- how many places a part of a leaf's row has
-pub length_of_row : {X : Type 0} (rows : List X) (width leaf leaves n : ℕ) → length rows ≡ leaves * width → leaf < leaves → n ≤ width →
+pub length_of_row : {X : Type 0} (rows : List X) (width leaf items n : ℕ) → length rows ≡ items * width → leaf < items → n ≤ width →
     length (take n (drop (leaf * width) rows)) ≡ n
-length_of_row rows width leaf leaves n len below few =
-    let room : suc leaf * width ≤ leaves * width = mul-le-mul_right width below in
+length_of_row rows width leaf items n len below few =
+    let room : suc leaf * width ≤ items * width = mul-le-mul_right width below in
     let next : suc leaf * width ≡ leaf * width + width = suc-mul leaf width in
     omega (arith, length-take n (drop (leaf * width) rows), length-drop (leaf * width) rows)
 
 -- what a leaf's rows give is its input
-pub input_of_rows : (leaves leaf : ℕ) (indicators prices : List (Option ℕ)) (benchmarks : List (Option ℤ)) →
-    AreRows leaves indicators prices benchmarks → leaf < leaves → (run : List ℕ) (priced : List (Option ℕ)) (benchmarked : List (Option ℤ)) →
+pub input_of_rows : (items leaf : ℕ) (indicators prices : List (Option ℕ)) (benchmarks : List (Option ℤ)) →
+    AreRows items indicators prices benchmarks → leaf < items → (run : List ℕ) (priced : List (Option ℕ)) (benchmarked : List (Option ℤ)) →
     run ≡ present_run (take 256 (drop (leaf * 256) indicators)) → length run ≤ 256 →
     priced ≡ take (length run) (drop (leaf * 256) prices) → benchmarked ≡ take (length run / 4) (drop (leaf * 64) benchmarks) →
-    IsInputOf (λ kind period. cell (record { leaves = leaves; indicators = indicators; prices = prices; benchmarks = benchmarks }) kind leaf period) run priced benchmarked
-input_of_rows leaves leaf indicators prices benchmarks rows below run priced benchmarked r few p b =
-    let quarters : length (take 256 (drop (leaf * 256) indicators)) ≡ 256 = length_of_row indicators 256 leaf leaves 256 rows.quarters below (omega arith) in
-    let prices_there : length (take (length run) (drop (leaf * 256) prices)) ≡ length run = length_of_row prices 256 leaf leaves (length run) rows.priced below few in
-    let years_there : length (take (length run / 4) (drop (leaf * 64) benchmarks)) ≡ length run / 4 = length_of_row benchmarks 64 leaf leaves (length run / 4) rows.years below (omega arith) in
-    let the_rows : Rows = record { leaves = leaves; indicators = indicators; prices = prices; benchmarks = benchmarks } in
+    IsInputOf (λ kind period. cell (record { items = items; indicators = indicators; prices = prices; benchmarks = benchmarks }) kind leaf period) run priced benchmarked
+input_of_rows items leaf indicators prices benchmarks rows below run priced benchmarked r few p b =
+    let quarters : length (take 256 (drop (leaf * 256) indicators)) ≡ 256 = length_of_row indicators 256 leaf items 256 rows.quarters below (omega arith) in
+    let prices_there : length (take (length run) (drop (leaf * 256) prices)) ≡ length run = length_of_row prices 256 leaf items (length run) rows.priced below few in
+    let years_there : length (take (length run / 4) (drop (leaf * 64) benchmarks)) ≡ length run / 4 = length_of_row benchmarks 64 leaf items (length run / 4) rows.years below (omega arith) in
+    let the_rows : Rows = record { items = items; indicators = indicators; prices = prices; benchmarks = benchmarks } in
     record {
       run = rw r (subst (λ (n : ℕ). map (λ n. pos n) (present_run (take 256 (drop (leaf * 256) indicators))) ≡ run_from (λ period. cell the_rows Indicator leaf period) n 0) quarters
           (run_of_row (take 256 (drop (leaf * 256) indicators)) (λ period. cell the_rows Indicator leaf period) 0
-          (λ k within. rw zero-add (ap (option_map (λ n. pos n)) (place_in_row indicators 256 leaf leaves 256 k rows.quarters below (omega arith) (omega arith))))));
+          (λ k within. rw zero-add (ap (option_map (λ n. pos n)) (place_in_row indicators 256 leaf items 256 k rows.quarters below (omega arith) (omega arith))))));
       priced = rw p (subst (λ (n : ℕ). map (option_map (λ n. pos n)) (take (length run) (drop (leaf * 256) prices)) ≡ cells_from (λ period. cell the_rows Price leaf period) n 0) prices_there
           (cells_of_row (option_map (λ n. pos n)) (take (length run) (drop (leaf * 256) prices)) (λ period. cell the_rows Price leaf period) 0
-          (λ k within. rw zero-add (ap (option_map (λ n. pos n)) (place_in_row prices 256 leaf leaves (length run) k rows.priced below few (omega arith))))));
+          (λ k within. rw zero-add (ap (option_map (λ n. pos n)) (place_in_row prices 256 leaf items (length run) k rows.priced below few (omega arith))))));
       benchmarked = rw b (subst (λ (n : ℕ). take (length run / 4) (drop (leaf * 64) benchmarks) ≡ cells_from (λ period. cell the_rows Benchmark leaf period) n 0) years_there
           (sym (map-id (take (length run / 4) (drop (leaf * 64) benchmarks))) ∙ cells_of_row (λ x. x) (take (length run / 4) (drop (leaf * 64) benchmarks)) (λ period. cell the_rows Benchmark leaf period) 0
-          (λ k within. rw zero-add (place_in_row benchmarks 64 leaf leaves (length run / 4) k rows.years below (omega arith) (omega arith)))));
+          (λ k within. rw zero-add (place_in_row benchmarks 64 leaf items (length run / 4) k rows.years below (omega arith) (omega arith)))));
     }

@@ -6,14 +6,14 @@ use Rattle.series_tables.specs.declared.input.Kind.{Kind}
 use Rattle.series_tables.specs.declared.input.Kind.TheVariants.{Indicator, Benchmark, Price}
 use Rattle.series_tables.specs.LastValue.{speaks_of, run_of, quarters, years}
 
--- the rows of all leaves, one after another: 256 quarters a leaf, and 64 years a leaf for the benchmarks
+-- the rows of all items, one after another: 256 quarters an item, and 64 years an item for the benchmarks
 pub record Rows : Type 0 where
-  pub leaves : ℕ
+  pub items : ℕ
   pub indicators : List (Option ℕ)
   pub prices : List (Option ℕ)
   pub benchmarks : List (Option ℤ)
 
--- what stands at a place of rows that have so many places a leaf
+-- what stands at a place of rows that have so many places an item
 abbrev pub at_place : {X : Type 0} → List (Option X) → ℕ → ℕ → ℕ → Option X
 at_place rows width leaf period = if nat_lt period width then slice_index_or rows (leaf * width + period) None else None
 

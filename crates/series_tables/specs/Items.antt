@@ -1,13 +1,19 @@
 -- The items of a plan, as lists of their names and parents.
-use Rattle.std.specs.Prelude.{ℕ, suc, ◌<◌, Bool, false, not, List, EachIndex, map, drop, length, slice_index_or, slice_set, Option, Some, None}
-use Rattle.std.specs.List.{list_any, range_with_len}
+use Rattle.std.specs.Prelude.{ℕ, suc, ◌<◌, ◌≢◌, Bool, false, not, IsTrue, List, EachIndex, All, map, drop, length, slice_index_or, slice_set, Option, Some, None}
+use Rattle.std.specs.List.{AllPairs, list_any, range_with_len}
 use Rattle.std.specs.Option.{ForSome}
+use Rattle.line_form.specs.Name.{is_name}
 use Rattle.series_tables.specs.Plan.{is_parent}
 
 -- the items' names and the numbers of their parents, in the order of the items
 pub record ItemList : Type 0 where
   pub names : List (List ℕ)
   pub parents : List (Option ℕ)
+
+-- each is a name, and no two are one
+pub record AreNames (names : List (List ℕ)) : Type 0 where
+  pub each : All (λ name. IsTrue (is_name name)) names
+  pub apart : AllPairs (λ name later. name ≢ later) names
 
 -- a parent's number is smaller than its child's
 abbrev pub AreBackward : List (Option ℕ) → Type 0

@@ -1,5 +1,5 @@
 -- The last value of a list of inputs, and the run of quarters that have one.
-use Rattle.std.specs.Prelude.{ℕ, ℤ, pos, ◌<◌, ◌^◌, ◌≤ℤ◌, neg_ℤ, zero, suc, Bool, true, false, ◌&&◌, ◌==◌, List, [], ◌∷◌, Option, Some, None, if◌then◌else◌}
+use Rattle.std.specs.Prelude.{ℕ, ℤ, pos, ◌^◌, neg_ℤ, zero, suc, Bool, true, false, ◌&&◌, ◌==◌, List, [], ◌∷◌, Option, Some, None, if◌then◌else◌}
 use Rattle.series_tables.specs.declared.input.Input.{Input}
 use Rattle.series_tables.specs.declared.input.Kind.{Kind}
 use Rattle.series_tables.specs.declared.input.Kind.TheVariants.{Indicator, Benchmark, Price}
@@ -55,10 +55,3 @@ least_of kind = pos 1
 abbrev pub most_of : Kind → ℤ
 most_of Benchmark = pos (10 ^ 12)
 most_of kind = pos (10 ^ 9)
-
--- an input names one of so many leaves, a period of the plan's years, and a value in its kind's range
-pub record IsFitting (leaves : ℕ) (input : Input) : Type 0 where
-  pub leaf : input.leaf < leaves
-  pub period : input.period < periods_of input.kind
-  pub least : least_of input.kind ≤ℤ input.value
-  pub most : input.value ≤ℤ most_of input.kind

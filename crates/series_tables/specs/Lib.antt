@@ -3,8 +3,10 @@ pub mod Plan
 pub mod PlanError
 pub mod PlanReading
 pub mod Items
+pub mod IsPlan
 pub mod PlanEntries
 pub mod LastValue
+pub mod Fits
 pub mod Cells
 pub mod Ranges
 pub mod Tree

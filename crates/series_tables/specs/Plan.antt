@@ -3,11 +3,11 @@ use Rattle.std.specs.Prelude.{ℕ, ◌-◌, Bool, false, not, ◌&&◌, ◌==◌
 use Rattle.std.specs.Option.{option_map, option_or}
 use Rattle.std.specs.List.{list_any, filter_map}
 use Rattle.std.specs.Str.{bytes_eq}
-use Rattle.line_form.specs.Lines.{TextLine, lines_of, next_number}
+use Rattle.line_form.specs.Lines.{TextLine, lines_of, next_number, is_passed_over}
 use Rattle.period_keys.specs.Period.{is_within}
 use Rattle.series_tables.specs.declared.cause.PlanCause.{PlanCause}
 use Rattle.series_tables.specs.declared.cause.PlanCause.TheVariants.{Form, NoStart, Twice, Year, NoParent, TooMany}
-use Rattle.series_tables.specs.PlanLine.{PlanEntry, start_entry, reference_entry, item_entry, said, is_passed_over}
+use Rattle.series_tables.specs.PlanLine.{PlanEntry, start_entry, reference_entry, item_entry, said}
 
 -- what a plan holds: its first year, the reference year counted from it, and the items' names and parents in the order of their numbers
 pub record PlanShape : Type 0 where

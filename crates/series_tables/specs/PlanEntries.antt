@@ -1,9 +1,9 @@
 -- What the code holds of a plan's entries.
-use Rattle.std.specs.Prelude.{◌≡◌, ℕ, ◌<◌, ◌≤◌, ◌+◌, false, Option, Some, None}
+use Rattle.std.specs.Prelude.{ℕ, ◌<◌, ◌≤◌, ◌+◌, IsTrue, Option, Some, None}
+use Rattle.line_form.specs.Name.{is_name}
 use Rattle.series_tables.specs.declared.entry.Entry.{Entry}
 use Rattle.series_tables.specs.declared.entry.Entry.TheVariants.{Start, Reference, Item}
 use Rattle.series_tables.specs.PlanLine.{PlanEntry, start_entry, reference_entry, item_entry}
-use Rattle.series_tables.specs.Plan.{Gathered, is_early, is_second, is_out_of_range, is_past_last}
 
 -- what the code's entry says
 abbrev pub entry_view : Entry → PlanEntry
@@ -22,9 +22,8 @@ IsReferenceInRange start None = Unit {0}
 IsReferenceInRange None (Some year) = ⊥
 IsReferenceInRange (Some start) (Some year) = (start ≤ year) × (year < start + 64)
 
--- what an entry that isn't refused meets
-pub record IsFree (before : Gathered) (entry : PlanEntry) : Type 0 where
-  pub late : is_early before entry ≡ false
-  pub single : is_second before entry ≡ false
-  pub within : is_out_of_range before entry ≡ false
-  pub few : is_past_last before entry ≡ false
+-- an item's name is a name
+abbrev pub IsNamed : PlanEntry → Type 0
+IsNamed (start_entry year) = Unit {0}
+IsNamed (reference_entry year) = Unit {0}
+IsNamed (item_entry name parent) = IsTrue (is_name name)

@@ -1,7 +1,7 @@
 -- How far a reader of a plan has come, and what it makes of the lines that are left.
 use Rattle.std.specs.Prelude.{ℕ, List, [], ◌∷◌, ◌++◌, Option, Some, None, Result, Err, if◌then◌else◌}
-use Rattle.line_form.specs.Lines.{TextLine, next_number}
-use Rattle.series_tables.specs.PlanLine.{PlanEntry, start_entry, reference_entry, item_entry, said, is_passed_over}
+use Rattle.line_form.specs.Lines.{TextLine, next_number, is_passed_over}
+use Rattle.series_tables.specs.PlanLine.{PlanEntry, start_entry, reference_entry, item_entry, said}
 use Rattle.series_tables.specs.Plan.{PlanShape, Gathered, PlanRefusal, parent_among, cause_of, plan_given}
 
 -- what the lines so far give, and how many they are

@@ -18,12 +18,12 @@ IsPositiveOrNone cell = ForSome cell IsPositiveInRange
 abbrev pub IsBenchmarkOrNone : Option ℤ → Type 0
 IsBenchmarkOrNone cell = ForSome cell IsBenchmarkInRange
 
--- rows for so many leaves, each value in range
-pub record AreRows (leaves : ℕ) (indicators prices : List (Option ℕ)) (benchmarks : List (Option ℤ)) : Type 0 where
-  pub few : leaves ≤ 512
-  pub quarters : length indicators ≡ leaves * 256
-  pub priced : length prices ≡ leaves * 256
-  pub years : length benchmarks ≡ leaves * 64
+-- rows for so many items, each value in range
+pub record AreRows (items : ℕ) (indicators prices : List (Option ℕ)) (benchmarks : List (Option ℤ)) : Type 0 where
+  pub few : items ≤ 512
+  pub quarters : length indicators ≡ items * 256
+  pub priced : length prices ≡ items * 256
+  pub years : length benchmarks ≡ items * 64
   pub indicators_in_range : All IsPositiveOrNone indicators
   pub prices_in_range : All IsPositiveOrNone prices
   pub benchmarks_in_range : All IsBenchmarkOrNone benchmarks

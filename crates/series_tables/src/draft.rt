@@ -5,7 +5,7 @@ ghost use Rattle.series_tables.specs.Plan.{plan_given, years_on as years_on_of, 
 ghost use Rattle.period_keys.specs.Period.{is_within as is_within_of};
 ghost use Rattle.series_tables.specs.PlanError.{Refuses};
 ghost use Rattle.series_tables.specs.PlanReading.{nothing, with_entry};
-ghost use Rattle.series_tables.specs.PlanEntries.{entry_view, IsStartInRange, IsReferenceInRange};
+ghost use Rattle.series_tables.specs.PlanEntries.{entry_view, IsNamed, IsStartInRange, IsReferenceInRange};
 
 use crate::cause::{PlanCause, PlanError};
 use crate::entry::Entry;
@@ -127,7 +127,8 @@ impl Draft {
 
     /// Adds what an entry gives that isn't refused.
     pub(crate) fn add(&mut self, alloc: Global, said: Entry) -> Result<(), Memory>
-        requires { cause_of_entry self.old (entry_view said) ≡ None }
+        requires free { cause_of_entry self.old (entry_view said) ≡ None }
+        requires named { IsNamed (entry_view said) }
         ensures { OnOk result (self.new ≡ with_entry self.old (entry_view said.entry)) }
     {
         match said {

@@ -1,12 +1,15 @@
 //! The items of a plan: their names, each found by its bytes, and their parents.
 
-ghost use Rattle.std.specs.Prelude.{◌≡◌, ◌<◌, ◌≤◌, ◌++◌, ◌∷◌, [], Some, None, true, false, length, map, position, replicate, slice_get, slice_index_or, IfOk, IfSome, OnOk, OnErr};
+ghost use Rattle.std.specs.Prelude.{◌≡◌, ◌<◌, ◌≤◌, ◌++◌, ◌∷◌, [], Some, None, true, false, length, map, position, replicate, slice_get, slice_index_or, IsTrue, IfOk, IfSome, OnOk, OnErr};
 ghost use Rattle.std.specs.Option.{ForSome};
 ghost use Rattle.std.specs.List.{list_any};
 ghost use Rattle.std.specs.Str.{bytes_eq};
-ghost use Rattle.series_tables.specs.Items.{AreBackward as AreBackwardOf, leaf_flags as leaf_flags_of, leaf_flags_behind, marked};
+ghost use Rattle.line_form.specs.Name.{is_name};
+ghost use Rattle.series_tables.specs.IsPlan.{names_of, parents_of};
+ghost use Rattle.series_tables.specs.Items.{AreBackward as AreBackwardOf, AreNames, leaf_flags as leaf_flags_of, leaf_flags_behind, marked};
 ghost use Rattle.series_tables.specs.Plan.{parent_among as parent_among_of};
 
+use crate::item::Item;
 use indexmap::IndexSet;
 use qna_base::Memory;
 use std::alloc::Global;
@@ -24,13 +27,20 @@ pub(crate) struct Items {
 
 impl Model for Items {
     ghost use Rattle.std.specs.Prelude.{◌≡◌, ◌≤◌, length, map};
-    ghost use Rattle.series_tables.specs.Items.{ItemList, AreBackward};
+    ghost use Rattle.series_tables.specs.Items.{ItemList, AreBackward, AreNames};
 
     ghost Value = { ItemList };
 
-    ghost view = { λ items. record { names = map (λ name. name.items) items.names.keys; parents = items.parents.items } };
+    ghost view = { λ items. record {
+      names = map (λ name. name.items) items.names.keys;
+      parents = items.parents.items;
+    } };
 
-    ghost invariant = { λ items. (length items.names.keys ≤ 512) × (length items.parents.items ≡ length items.names.keys) × AreBackward items.parents.items };
+    ghost invariant = { λ items.
+        (length items.names.keys ≤ 512)
+        × (length items.parents.items ≡ length items.names.keys)
+        × AreBackward items.parents.items
+        × AreNames (map (λ name. name.items) items.names.keys) };
 }
 
 impl Items {
@@ -44,6 +54,21 @@ impl Items {
         }
     }
 
+    /// These items in their order.
+    pub(crate) fn of(alloc: Global, items: &[Item]) -> Result<Items, Memory>
+        requires few { length items.now ≤ 512 }
+        requires names { AreNames (names_of items.now) }
+        requires parents { AreBackwardOf (parents_of items.now) }
+        ensures { IfOk result (λ made.
+            made ≡ record { names = names_of items.now; parents = parents_of items.now }) }
+    {
+        let mut made = Items::new(alloc);
+        for item in items {
+            made.add(alloc, &item.name, item.parent)?;
+        }
+        Ok(made)
+    }
+
     /// How many items there are, at most 512.
     pub(crate) fn len(&self) -> usize
         ensures items { result ≡ length self.now.names }
@@ -53,10 +78,12 @@ impl Items {
         self.names.len()
     }
 
-    /// The name of an item.
+    /// The name of an item, by which it is found.
     pub(crate) fn name(&self, node: u16) -> &[u8]
         requires { node < length self.now.names }
-        ensures { slice_get self.now.names node ≡ Some result.now }
+        ensures item { slice_get self.now.names node ≡ Some result.now }
+        ensures name { IsTrue (is_name result.now) }
+        ensures found { position (bytes_eq result.now) self.now.names ≡ Some node }
     {
         self.names[node as usize].as_slice()
     }
@@ -120,6 +147,7 @@ impl Items {
         parent: Option<u16>,
     ) -> Result<(), Memory>
         requires few { length self.old.names < 512 }
+        requires name { IsTrue (is_name name.now) }
         requires unused { list_any (bytes_eq name.now) self.old.names ≡ false }
         requires smaller { ForSome parent (λ node. node < length self.old.names) }
         ensures names { OnOk result (self.new.names ≡ self.old.names ++ name.now ∷ []) }

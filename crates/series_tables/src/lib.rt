@@ -5,7 +5,9 @@ mod cause;
 mod draft;
 mod entry;
 mod input;
+mod item;
 mod items;
+mod laws;
 mod leaf_input;
 mod plan;
 mod reading;
@@ -13,6 +15,8 @@ mod tables;
 
 pub use cause::{PlanCause, PlanError};
 pub use input::{Input, Kind};
+pub use item::Item;
+pub use laws::{last_values_go_on, spelled_plans_are_plans};
 pub use leaf_input::LeafInput;
 pub use plan::Plan;
 pub use tables::Tables;

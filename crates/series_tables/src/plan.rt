@@ -3,10 +3,13 @@
 ghost use Rattle.std.specs.Prelude.{◌≡◌, ◌<◌, ◌≤◌, ◌↔◌, Some, None, Ok, not, suc, drop, length, slice_get, slice_index_or, IsTrue, IfOk, IfErr, IfSome};
 ghost use Rattle.period_keys.specs.declared.Year.{Year as YearPlace};
 ghost use Rattle.std.specs.List.{list_any};
+ghost use Rattle.line_form.specs.Name.{is_name};
+ghost use Rattle.series_tables.specs.IsPlan.{IsPlan, plan_with};
 ghost use Rattle.series_tables.specs.Items.{leaf_flags, leaf_flags_behind};
 ghost use Rattle.series_tables.specs.Plan.{plan_of, item_with_name, is_parent, is_leaf as is_leaf_of};
 
 use crate::cause::PlanError;
+use crate::item::Item;
 use crate::items::Items;
 use crate::reading::read_text;
 use period_keys::Year;
@@ -14,8 +17,8 @@ use qna_base::Memory;
 use std::alloc::Global;
 use std::marker::Model;
 
-/// The first year, the reference year, and the items in the order of the plan's text. Items are numbered from 0, so a parent has
-/// a smaller number than its children.
+/// The first year, the reference year, and the items in their order. Items are numbered from 0, and a parent has a smaller number
+/// than its children. Their names are names, and no two are one.
 #[derive(Drop)]
 pub struct Plan {
     start: u16,
@@ -31,9 +34,18 @@ impl Model for Plan {
 
     ghost Value = { PlanShape };
 
-    ghost view = { λ plan. record { start = plan.start; reference = plan.reference.0; names = plan.items.names; parents = plan.items.parents } };
+    ghost view = { λ plan. record {
+      start = plan.start;
+      reference = plan.reference.0;
+      names = plan.items.names;
+      parents = plan.items.parents;
+    } };
 
-    ghost invariant = { λ plan. ((1900 ≤ plan.start) × (plan.start ≤ 2200) × (plan.reference.0 < 64)) × ((length plan.leaves.items ≡ length plan.items.names) × (plan.leaves.items ≡ leaf_flags plan.items.parents) × (plan.leaves.items ≡ leaf_flags_behind plan.items.parents)) };
+    ghost invariant = { λ plan.
+        ((1900 ≤ plan.start) × (plan.start ≤ 2200) × (plan.reference.0 < 64))
+        × ((length plan.leaves.items ≡ length plan.items.names)
+        × (plan.leaves.items ≡ leaf_flags plan.items.parents)
+        × (plan.leaves.items ≡ leaf_flags_behind plan.items.parents)) };
 }
 
 impl Plan {
@@ -52,6 +64,17 @@ impl Plan {
         read_text(alloc, text)
     }
 
+    /// Makes a plan of its parts: a first year from 1900 to 2200, a reference year of the 64 from there on, and at most 512 items, numbered from
+    /// 0 in their order. No two items have one name, and each parent stands before its children.
+    pub fn new(alloc: Global, start: u16, reference: Year, items: &[Item]) -> Result<Plan, Memory>
+        requires { IsPlan (plan_with start reference.0 items.now) }
+        ensures { IfOk result (λ plan. plan ≡ plan_with start reference.0 items.now) }
+    {
+        let items = Items::of(alloc, items)?;
+        let leaves = items.leaves(alloc)?;
+        Ok(Plan::of(start, reference, items, leaves))
+    }
+
     /// The plan of these years and items, with a flag for each item that says whether it is a leaf.
     pub(crate) fn of(start: u16, reference: Year, items: Items, leaves: Vec<bool>) -> Plan
         requires first { 1900 ≤ start }
@@ -60,7 +83,12 @@ impl Plan {
         requires all { length leaves.items ≡ length items.names }
         requires leaves { leaves.items ≡ leaf_flags items.parents }
         requires behind { leaves.items ≡ leaf_flags_behind items.parents }
-        ensures { result ≡ record { start = start; reference = reference.0; names = items.names; parents = items.parents } }
+        ensures { result ≡ record {
+          start = start;
+          reference = reference.0;
+          names = items.names;
+          parents = items.parents;
+        } }
     {
         Plan {
             start,
@@ -102,10 +130,12 @@ impl Plan {
         self.items.len() == 0
     }
 
-    /// The name of an item.
+    /// The name of an item, by which `find` finds it.
     pub fn name(&self, node: u16) -> &[u8]
         requires { node < length self.now.names }
-        ensures { slice_get self.now.names node ≡ Some result.now }
+        ensures item { slice_get self.now.names node ≡ Some result.now }
+        ensures name { IsTrue (is_name result.now) }
+        ensures found { item_with_name self.now result.now ≡ Some node }
     {
         self.items.name(node)
     }

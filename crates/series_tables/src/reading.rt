@@ -9,9 +9,9 @@ ghost use Rattle.series_tables.specs.PlanReading.{outcome, nothing, with_said};
 
 use crate::cause::{PlanCause, PlanError};
 use crate::draft::Draft;
-use crate::entry::{entry_of, is_passed_over};
+use crate::entry::entry_of;
 use crate::plan::Plan;
-use line_form::{Line, LineFault, Lines, fields};
+use line_form::{Line, LineFault, Lines, fields, is_passed_over};
 use std::alloc::Global;
 use std::marker::Model;
 

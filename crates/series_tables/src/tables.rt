@@ -1,7 +1,7 @@
 //! The last value of each kind, leaf and period.
 
 ghost use Rattle.std.specs.Prelude.{◌≡◌, ◌<◌, ◌≤◌, ◌≤ℤ◌, ◌+◌, ◌*◌, ◌^◌, ◌==◌, ◌&&◌, if◌then◌else◌, ℕ, Some, length, vec_len, slice_set, replicate, map, pos, take, drop, IfOk, None};
-ghost use Rattle.series_tables.specs.LastValue.{IsFitting};
+ghost use Rattle.series_tables.specs.Fits.{HasRoom};
 ghost use Rattle.series_tables.specs.Cells.{Rows, at_place, cell, after_input, IsInputOf, present_run};
 ghost use Rattle.series_tables.specs.Ranges.{AreRows};
 ghost use Rattle.series_tables.specs.declared.input.Kind.{Kind};
@@ -18,12 +18,12 @@ const QUARTERS: usize = 256;
 /// The years of a plan, from its start year on.
 const YEARS: usize = 64;
 
-/// For each leaf a row of 256 quarters with indicators, one with prices, and a row of 64 years with benchmarks. The room for
+/// For each item a row of 256 quarters with indicators, one with prices, and a row of 64 years with benchmarks. The room for
 /// all is taken at once.
 #[derive(Drop)]
 pub struct Tables {
     alloc: Global,
-    leaves: usize,
+    items: usize,
     indicators: Vec<Option<u32>>,
     prices: Vec<Option<u32>>,
     benchmarks: Vec<Option<i64>>,
@@ -32,32 +32,40 @@ pub struct Tables {
 impl Model for Tables {
     ghost Value = { Rows };
 
-    ghost view = { λ tables. record { leaves = tables.leaves; indicators = tables.indicators.items; prices = tables.prices.items; benchmarks = tables.benchmarks.items } };
+    ghost view = { λ tables. record {
+      items = tables.items;
+      indicators = tables.indicators.items;
+      prices = tables.prices.items;
+      benchmarks = tables.benchmarks.items;
+    } };
 
-    ghost invariant = { λ tables. AreRows tables.leaves tables.indicators.items tables.prices.items tables.benchmarks.items };
+    ghost invariant = { λ tables.
+        AreRows tables.items tables.indicators.items tables.prices.items tables.benchmarks.items };
 }
 
 impl Tables {
     /// Tables with no value, for the items of a plan.
     pub fn new(alloc: Global, plan: &Plan) -> Result<Tables, Memory>
-        ensures leaves { IfOk result (λ tables. tables.leaves ≡ length plan.now.names) }
-        ensures empty { IfOk result (λ tables. (kind : Kind) (leaf period : ℕ) → cell tables kind leaf period ≡ None) }
+        ensures items { IfOk result (λ tables. tables.items ≡ length plan.now.names) }
+        ensures empty { IfOk result (λ tables.
+            (kind : Kind) (leaf period : ℕ) → cell tables kind leaf period ≡ None) }
     {
-        let leaves = plan.len() as usize;
+        let items = plan.len() as usize;
         Ok(Tables {
             alloc,
-            leaves,
-            indicators: no_values(alloc, leaves * QUARTERS)?,
-            prices: no_values(alloc, leaves * QUARTERS)?,
-            benchmarks: no_values(alloc, leaves * YEARS)?,
+            items,
+            indicators: no_values(alloc, items * QUARTERS)?,
+            prices: no_values(alloc, items * QUARTERS)?,
+            benchmarks: no_values(alloc, items * YEARS)?,
         })
     }
 
     /// Puts an input's value into its cell. Every other cell stays as it is.
     pub fn set(&mut self, input: &Input)
-        requires { IsFitting self.old.leaves input.now }
-        ensures leaves { self.new.leaves ≡ self.old.leaves }
-        ensures cells { (kind : Kind) (leaf period : ℕ) → cell self.new kind leaf period ≡ after_input input.now kind leaf period (cell self.old kind leaf period) }
+        requires { HasRoom self.old.items input.now }
+        ensures items { self.new.items ≡ self.old.items }
+        ensures cells { (kind : Kind) (leaf period : ℕ) → cell self.new kind leaf period
+            ≡ after_input input.now kind leaf period (cell self.old kind leaf period) }
     {
         let leaf = input.leaf as usize;
         let period = input.period as usize;
@@ -82,8 +90,9 @@ impl Tables {
 
     /// What a leaf is compiled from: the run of its indicator, and the prices and benchmarks beside it.
     pub fn leaf_input(&self, leaf: u16) -> Result<LeafInput, Memory>
-        requires { leaf < self.now.leaves }
-        ensures { IfOk result (λ input. IsInputOf (λ kind period. cell self.now kind leaf period) input.ind.items input.price.items input.bench.items) }
+        requires { leaf < self.now.items }
+        ensures { IfOk result (λ input. IsInputOf (λ kind period. cell self.now kind leaf period)
+            input.ind.items input.price.items input.bench.items) }
     {
         let leaf = leaf as usize;
         let ind = present(self.alloc, row(&self.indicators, QUARTERS, leaf, QUARTERS))?;
@@ -135,7 +144,9 @@ fn put<T: Copy>(rows: &mut Vec<Option<T>>, width: usize, leaf: usize, period: us
     requires within { period < width }
     requires room { leaf * width + period < vec_len rows.old }
     ensures set { rows.new.items ≡ slice_set rows.old.items (leaf * width + period) (Some value) }
-    ensures places { (other at : ℕ) → at_place rows.new.items width other at ≡ (if leaf == other && period == at then Some value else at_place rows.old.items width other at) }
+    ensures places { (other at : ℕ) → at_place rows.new.items width other at
+        ≡ (if leaf == other && period == at then Some value
+        else at_place rows.old.items width other at) }
 {
     rows[leaf * width + period] = Some(value);
 }

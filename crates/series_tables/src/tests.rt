@@ -1,139 +1,36 @@
 // Plans and tables by examples.
 
-ghost use Rattle.std.specs.Prelude.{◌≡◌, ◌≢◌, ◌<◌, ◌≤ℤ◌, ◌^◌, pos};
+ghost use Rattle.std.specs.Prelude.{◌≡◌, ◌≢◌, ◌<◌, ◌≤ℤ◌, ◌^◌, ◌∷◌, [], pos, IfOk};
 
-use crate::{Input, Kind, Plan, PlanCause, PlanError, Tables};
+use crate::{Input, Item, Kind, Plan, PlanCause, PlanError, Tables};
 use period_keys::Year;
 use std::alloc::Global;
-use std::process::Abort;
 use std::test::Fail;
 
 /// A text, the line that is refused, and the cause.
 type Row = (&'static [u8], u64, PlanCause);
 
-/// Lines that are of none of the forms.
-const FORMS: [Row; 12] = [
-    (b"start,21\n", 1, PlanCause::Form),
-    (b"start,202l\n", 1, PlanCause::Form),
-    (b"start,2021,\n", 1, PlanCause::Form),
-    (b"start\n", 1, PlanCause::Form),
-    (b"reference,21\n", 1, PlanCause::Form),
-    (b"start,2021\nitem,A\n", 2, PlanCause::Form),
-    (b"start,2021\nitem,A,,\n", 2, PlanCause::Form),
-    (b"start,2021\nitem,,\n", 2, PlanCause::Form),
-    (b"item,A B,B\n", 1, PlanCause::Form),
-    (b"start,2021\nitem,A\r,\nstart,1800\n", 2, PlanCause::Form),
-    (b"start,2021\n \nitem,A,\n", 2, PlanCause::Form),
-    (
-        b"start,2021\nitem,ABCDEFGHIJKLMNOPQRSTUVWXYZ0123456,",
-        2,
-        PlanCause::Form,
-    ),
-];
-
-/// Lines with no first year before them.
-const EARLY: [Row; 10] = [
-    (b"reference,2021\n", 1, PlanCause::NoStart),
-    (b"\nreference,1800\nstart,2021\n", 2, PlanCause::NoStart),
-    (b"item,A,B\n", 1, PlanCause::NoStart),
-    (b"", 1, PlanCause::NoStart),
-    (b"\xEF\xBB\xBF", 1, PlanCause::NoStart),
-    (b"\r", 2, PlanCause::NoStart),
-    (b"\n\n# plan", 4, PlanCause::NoStart),
+/// A refused text for each cause, in their order, and one for which two causes apply.
+const REFUSED: [Row; 7] = [
+    (b"start,2021\nitem,A B,\n", 2, PlanCause::Form),
     (b"\n\n# plan\n", 4, PlanCause::NoStart),
-    (b"item,A,\n", 1, PlanCause::NoStart),
-    (b"\nitem,A,\nitem,A,\nstart,2021\n", 2, PlanCause::NoStart),
-];
-
-/// Items whose parent isn't an item before them.
-const ORPHANS: [Row; 7] = [
-    (b"start,2021\nitem,A,A\n", 2, PlanCause::NoParent),
-    (b"start,2021\nitem,A,\nitem,A,B\n", 3, PlanCause::Twice),
-    (b"start,2021\nitem,A,A B\n", 2, PlanCause::NoParent),
-    (b"start,2021\nitem,A,B\nitem,B,\n", 2, PlanCause::NoParent),
-    (b"start,2021\nitem,A,\nitem,B,a\n", 3, PlanCause::NoParent),
-    (
-        b"start,2021\nitem,AB,\nitem,C,A\nstart,2021\n",
-        3,
-        PlanCause::NoParent,
-    ),
-    (
-        b"# plan\n\nstart,2021\n\n#\nitem,A,B\n",
-        6,
-        PlanCause::NoParent,
-    ),
-];
-
-/// Lines behind a first year.
-const BEHIND: [Row; 17] = [
-    (b"start,2021\nstart,2021\n", 2, PlanCause::Twice),
-    (b"start,2021\nstart,1800\n", 2, PlanCause::Twice),
     (
         b"start,2021\nitem,A,\nitem,B,\nitem,A,\n",
         4,
         PlanCause::Twice,
     ),
-    (
-        b"start,2021\nitem,A,\n\"item\",\"A\",\"\"",
-        3,
-        PlanCause::Twice,
-    ),
-    (
-        b"start,2021\nitem,A,\nitem,A,\nitem,B C,\n",
-        3,
-        PlanCause::Twice,
-    ),
-    (
-        b"\xEF\xBB\xBFstart,2021\r\nitem,A,\r\nstart,2021",
-        3,
-        PlanCause::Twice,
-    ),
-    (
-        b"start,2021\nreference,2021\nreference,2021\n",
-        3,
-        PlanCause::Twice,
-    ),
-    (
-        b"start,2021\nreference,2084\nitem,A,\nreference,1800\n",
-        4,
-        PlanCause::Twice,
-    ),
-    (b"start,2021\nreference,2020\n", 2, PlanCause::Year),
     (b"start,2021\nreference,2085\n", 2, PlanCause::Year),
-    (
-        b"start,2021\nreference,2085\nreference,2021\n",
-        2,
-        PlanCause::Year,
-    ),
-    (b"start,2200\nreference,2264\n", 2, PlanCause::Year),
-    (b"start,1899\n", 1, PlanCause::Year),
+    (b"start,2021\nitem,A,B\nitem,B,\n", 2, PlanCause::NoParent),
+    (b"start,2021\nitem,A,\nitem,A,B\n", 3, PlanCause::Twice),
     (b"start,2201\n", 1, PlanCause::Year),
-    (b"start,0000\n", 1, PlanCause::Year),
-    (b"\nstart,9999\nstart,1800\n", 2, PlanCause::Year),
-    (b"start,2021\nitem,B C,\nitem,B,C\n", 2, PlanCause::Form),
 ];
 
 /// Plans, their first year, the years from there to the reference year, and their number of items.
-const PLANS: [(&'static [u8], u16, u16, u16); 13] = [
-    (b"start,1900", 1900, 0, 0),
-    (b"start,2200\n", 2200, 0, 0),
+const PLANS: [(&'static [u8], u16, u16, u16); 3] = [
     (b"start,2200\nreference,2263", 2200, 63, 0),
-    (b"start,2021\nreference,2021\n", 2021, 0, 0),
-    (b"start,2021\n\nreference,2084\nitem,FOOD,\n", 2021, 63, 1),
+    (b"# plan\n\nstart,2021\r\n#,,\"\nitem,FOOD,\n\n", 2021, 0, 1),
     (
-        b"start,2021\nitem,FOOD,\n\"reference\",2022\r\n",
-        2021,
-        1,
-        1,
-    ),
-    (b"start,2021\nitem,FOOD,\nitem,SERV,\n", 2021, 0, 2),
-    (b"start,2021\r\nitem,FOOD,\r\n", 2021, 0, 1),
-    (b"\xEF\xBB\xBFstart,2021\nitem,FOOD,", 2021, 0, 1),
-    (b"# plan\n\nstart,2021\n#,,\"\nitem,FOOD,\n\n", 2021, 0, 1),
-    (b"\"start\",\"2021\"\n\"item\",FOOD,\n", 2021, 0, 1),
-    (b"start,2021\nitem,FOOD,\"\n", 2021, 0, 1),
-    (
-        b"start,2021\nitem,a_Z.0-9,\nitem,ABCDEFGHIJKLMNOPQRSTUVWXYZ012345,\n",
+        b"\xEF\xBB\xBF\"start\",2021\nitem,a_Z.0-9,\nitem,ABCDEFGHIJKLMNOPQRSTUVWXYZ012345,a_Z.0-9",
         2021,
         0,
         2,
@@ -159,36 +56,25 @@ fn refusal_of(alloc: Global, text: &[u8]) -> Option<(u64, PlanCause)> {
     }
 }
 
-fn check_refusals(rt: &impl Abort, alloc: Global, rows: &[Row]) {
-    for (text, line, cause) in rows {
-        assert_eq!(rt; refusal_of(alloc, text), Some((*line, *cause)), "{text:?}");
-    }
-}
-
-fn check_plans(
-    rt: &impl Abort,
-    alloc: Global,
-    rows: &[(&'static [u8], u16, u16, u16)],
-) -> Result<(), Fail> {
-    for (text, start, reference, len) in rows {
-        let plan = Plan::read(alloc, text)?;
-        assert_eq!(rt; (plan.start(), plan.len()), (*start, *len), "{text:?}");
-        assert_eq!(rt; plan.reference(), Year(*reference), "{text:?}");
-    }
-    Ok(())
-}
-
 #[test]
 fn a_plan_is_refused_at_its_first_line_for_its_first_cause(rt: HostRuntime) {
-    check_refusals(&rt, rt.alloc(), &FORMS);
-    check_refusals(&rt, rt.alloc(), &EARLY);
-    check_refusals(&rt, rt.alloc(), &ORPHANS);
-    check_refusals(&rt, rt.alloc(), &BEHIND);
+    for (text, line, cause) in REFUSED {
+        assert_eq!(&rt;
+            refusal_of(rt.alloc(), text),
+            Some((line, cause)),
+            "{text:?}"
+        );
+    }
 }
 
 #[test]
 fn plans_are_read_with_all_their_spellings(rt: HostRuntime) -> Result<(), Fail> {
-    check_plans(&rt, rt.alloc(), &PLANS)
+    for (text, start, reference, len) in PLANS {
+        let plan = Plan::read(rt.alloc(), text)?;
+        assert_eq!(&rt; (plan.start(), plan.len()), (start, len), "{text:?}");
+        assert_eq!(&rt; plan.reference(), Year(reference), "{text:?}");
+    }
+    Ok(())
 }
 
 /// Adds the line of an item whose name is a number of three digits.
@@ -205,28 +91,41 @@ fn push_item(text: &mut Vec<u8>, number: u16) -> Result<(), Fail>
 }
 
 #[test]
-fn a_plan_has_512_items_and_lines_of_256_bytes(rt: HostRuntime) -> Result<(), Fail> {
+fn a_plan_has_512_items(rt: HostRuntime) -> Result<(), Fail> {
     let alloc = rt.alloc();
     let mut text = Vec::from_slice(alloc, b"start,2021\n")?;
     for number in 0..512_u16 {
         push_item(&mut text, number)?;
     }
     let plan = Plan::read(alloc, &text)?;
-    assert_eq!(rt; plan.len(), 512);
-    assert_eq!(rt; (plan.find(b"511"), plan.find(b"512")), (Some(511), None));
-    let mut second = Vec::from_slice(alloc, &text)?;
-    push_item(&mut second, 511)?;
-    assert_eq!(rt; refusal_of(alloc, &second), Some((514, PlanCause::Twice)));
+    assert_eq!(rt; (plan.len(), plan.find(b"511")), (512, Some(511)));
     push_item(&mut text, 512)?;
     assert_eq!(rt; refusal_of(alloc, &text), Some((514, PlanCause::TooMany)));
-    let mut long = Vec::from_slice(alloc, b"start,2021\n")?;
-    for _ in 0..256_u16 {
-        long.push(b'#')?;
-    }
-    let plan = Plan::read(alloc, &long)?;
-    assert_eq!(rt; plan.start(), 2021);
-    long.push(b'#')?;
-    assert_eq!(rt; refusal_of(alloc, &long), Some((2, PlanCause::Form)));
+    Ok(())
+}
+
+/// An item of a name of one letter.
+fn item(alloc: Global, letter: u8, parent: Option<u16>) -> Result<Item, Fail>
+    ensures name { IfOk result (λ item. item.name.items ≡ letter ∷ []) }
+    ensures parent { IfOk result (λ item. item.parent ≡ parent) }
+{
+    Ok(Item {
+        name: Vec::from_slice(alloc, &[letter])?,
+        parent,
+    })
+}
+
+#[test]
+fn a_plan_is_made_of_its_items(rt: HostRuntime) -> Result<(), Fail> {
+    let alloc = rt.alloc();
+    let items = [item(alloc, b'T', None)?, item(alloc, b'A', Some(0))?];
+    let plan = Plan::new(alloc, 2000, Year(3), &items)?;
+    assert_eq!(rt;
+        (plan.start(), plan.reference(), plan.len()),
+        (2000, Year(3), 2)
+    );
+    assert_eq!(rt; (plan.find(b"A"), plan.parent(1)), (Some(1), Some(0)));
+    assert_eq!(rt; (plan.is_leaf(0), plan.is_leaf(1)), (false, true));
     Ok(())
 }
 
@@ -265,12 +164,12 @@ fn tables_give_the_last_values_of_a_leaf(rt: HostRuntime) -> Result<(), Fail> {
 
 /// Gives the second item a value at a quarter.
 fn set(tables: &mut Tables, kind: Kind, period: u16, value: i64)
-    requires leaves { tables.old.leaves ≡ 2 }
+    requires items { tables.old.items ≡ 2 }
     requires kind { kind ≢ Kind.Benchmark }
     requires period { period < 4 }
     requires least { pos 1 ≤ℤ value }
     requires most { value ≤ℤ pos (10 ^ 9) }
-    ensures { tables.new.leaves ≡ 2 }
+    ensures { tables.new.items ≡ 2 }
 {
     tables.set(&Input {
         kind,

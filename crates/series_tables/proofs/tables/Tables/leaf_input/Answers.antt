@@ -7,16 +7,16 @@ use Rattle.series_tables.proofs.tables.Tables.leaf_input.Goals as goal
 
 pub row-requires-2 : goal.row-requires-2
 row-requires-2 c =
-    let below : c.args.leaf < c.self.inside.leaves = subst (λ (rows : Rows). c.args.leaf < rows.leaves) (sym c.self.view_is) c.requires in
-    let there : length c.self.inside.prices.items ≡ c.self.inside.leaves * 256 = c.self.invariant.priced in
+    let below : c.args.leaf < c.self.inside.items = subst (λ (rows : Rows). c.args.leaf < rows.items) (sym c.self.view_is) c.requires in
+    let there : length c.self.inside.prices.items ≡ c.self.inside.items * 256 = c.self.invariant.priced in
     let few : vec_len c.in_ok-ind.ind ≤ length c.row.result.now = c.in_ok-ind.ensures.bound in
     let row : length c.row.result.now ≡ 256 = c.row.ensures.len in
     rw c.deref-2.ensures.value (omega arith)
 
 pub row-requires-3 : goal.row-requires-3
 row-requires-3 c =
-    let below : c.args.leaf < c.self.inside.leaves = subst (λ (rows : Rows). c.args.leaf < rows.leaves) (sym c.self.view_is) c.requires in
-    let there : length c.self.inside.benchmarks.items ≡ c.self.inside.leaves * 64 = c.self.invariant.years in
+    let below : c.args.leaf < c.self.inside.items = subst (λ (rows : Rows). c.args.leaf < rows.items) (sym c.self.view_is) c.requires in
+    let there : length c.self.inside.benchmarks.items ≡ c.self.inside.items * 64 = c.self.invariant.years in
     let few : vec_len c.in_ok-ind.ind ≤ length c.row.result.now = c.in_ok-ind.ensures.bound in
     let row : length c.row.result.now ≡ 256 = c.row.ensures.len in
     rw c.deref-3.ensures.value (omega arith)
@@ -47,8 +47,8 @@ returns c =
     let quarters : c.len.result ≡ length c.in_ok-ind.ind.items = omega arith in
     let again : c.len-2.result ≡ length c.in_ok-ind.ind.items = omega arith in
     subst (λ (rows : Rows). IsInputOf (λ kind period. cell rows kind c.args.leaf period) c.in_ok-ind.ind.items c.in_ok-price.price.items c.in_ok-bench.bench.items) c.self.view_is
-    (input_of_rows c.self.inside.leaves c.args.leaf c.self.inside.indicators.items c.self.inside.prices.items c.self.inside.benchmarks.items c.self.invariant
-    (subst (λ (rows : Rows). c.args.leaf < rows.leaves) (sym c.self.view_is) c.requires)
+    (input_of_rows c.self.inside.items c.args.leaf c.self.inside.indicators.items c.self.inside.prices.items c.self.inside.benchmarks.items c.self.invariant
+    (subst (λ (rows : Rows). c.args.leaf < rows.items) (sym c.self.view_is) c.requires)
     c.in_ok-ind.ind.items c.in_ok-price.price.items c.in_ok-bench.bench.items
     (c.in_ok-ind.ensures.run ∙ ap present_run (c.row.ensures.row ∙ ap (λ rows. take 256 (drop (c.args.leaf * 256) rows)) c.deref.ensures.value))
     (omega arith)
