@@ -1,9 +1,9 @@
 -- What a line of an input asks for, by its form alone (this product's own).
-use Rattle.std.specs.Prelude.{ℕ, ℤ, pos, ◌+◌, ◌-◌, ◌*◌, ◌^◌, Bool, true, false, ◌&&◌, ◌==◌, int_le, List, [], ◌∷◌, codes, Option, Some, None, Result, Ok, Err, option_map, if◌then◌else◌}
+use Rattle.std.specs.Prelude.{ℕ, ℤ, pos, ◌+◌, ◌-◌, ◌*◌, ◌^◌, Bool, false, ◌&&◌, int_le, List, [], ◌∷◌, codes, Option, Some, None, Result, Ok, Err, option_map, if◌then◌else◌}
 use Rattle.std.specs.Str.{bytes_eq}
 use Rattle.series_tables.specs.declared.input.Kind.{Kind}
 use Rattle.series_tables.specs.declared.input.Kind.TheVariants.{Indicator, Benchmark, Price}
-use Rattle.line_form.specs.Lines.{TextLine}
+use Rattle.line_form.specs.Lines.{TextLine, is_passed_over}
 use Rattle.line_form.specs.Fields.{record_of}
 use Rattle.line_form.specs.Number.{number_of, cut_to}
 use Rattle.period_keys.specs.Period.{Named, year_of, quarter_of, is_within}
@@ -78,19 +78,14 @@ request_of start (word ∷ name ∷ period ∷ value ∷ []) = input_of_kind (ki
 request_of start (word ∷ name ∷ period ∷ value ∷ desk ∷ []) = if is_desk (number_of desk) then input_of_kind (kind_of word) start name period value else None
 request_of start fields = None
 
--- whether a line with these bytes is passed over: it is empty, or its first byte is `#`
-abbrev pub is_passed_over : List ℕ → Bool
-is_passed_over [] = true
-is_passed_over (byte ∷ bytes) = byte == 35
-
 -- the record's fields, or the cause where there is no record
 abbrev pub fields_or_form : Option (List (List ℕ)) → Result (Option (List (List ℕ))) Cause
 fields_or_form None = Err Form
 fields_or_form (Some fields) = Ok (Some fields)
 
--- the fields of a line, none of a line that is passed over, or why a line has none; a long line is never passed over
+-- the fields of a line, none of a line that is passed over, or why a line has none
 abbrev pub fields_of_line : TextLine → Result (Option (List (List ℕ))) Cause
-fields_of_line line = if line.long then Err Long else (if is_passed_over line.text then Ok None else fields_or_form (record_of line.text))
+fields_of_line line = if is_passed_over line then Ok None else (if line.long then Err Long else fields_or_form (record_of line.text))
 
 -- the request, or the cause where there is none
 abbrev pub request_or_form : Option Asked → Result (Option Asked) Cause

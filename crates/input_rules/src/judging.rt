@@ -1,7 +1,8 @@
 // The judgement of one input by the plan.
 
-ghost use Rattle.std.specs.Prelude.{◌≡◌, ◌<◌, IfOk, IfSome, length, Some};
-ghost use Rattle.series_tables.specs.LastValue.{IsFitting, periods_of, least_of, most_of};
+ghost use Rattle.std.specs.Prelude.{◌≡◌, ◌<◌, IfOk, IfSome, IsTrue, length};
+ghost use Rattle.series_tables.specs.Fits.{FitsPlan};
+ghost use Rattle.series_tables.specs.Plan.{is_leaf};
 ghost use Rattle.input_rules.specs.Judgement.{is_zero_indicator as is_zero_indicator_of, is_in_range as is_in_range_of, leaf_with_name as leaf_with_name_of, judgement, judgement_of_leaf};
 
 use series_tables::{Input, Kind, Plan};
@@ -39,14 +40,15 @@ const YEARS: u16 = 64;
 /// Judges an input: `Unknown` exactly where no leaf has its name; else `Zero` exactly where it is an indicator of 0; else `Range`
 /// exactly where its period or its value is out of range. An input that is taken fits the plan, with the leaf's number.
 pub fn judge(plan: &Plan, raw: &RawInput) -> Result<Input, Refusal>
-    ensures judgement { result ≡ judgement plan.now raw.now.kind raw.now.name.items raw.now.period raw.now.value }
-    ensures fits { IfOk result (IsFitting (length plan.now.names)) }
+    ensures judgement { result
+        ≡ judgement plan.now raw.now.kind raw.now.name.items raw.now.period raw.now.value }
+    ensures fits { IfOk result (FitsPlan plan.now) }
 {
     judge_input(plan, raw.kind, &raw.name, raw.period, raw.value)
 }
 
 /// Judges an input given by its parts, alike.
-pub(crate) fn judge_input(
+pub fn judge_input(
     plan: &Plan,
     kind: Kind,
     name: &[u8],
@@ -54,7 +56,7 @@ pub(crate) fn judge_input(
     value: i64,
 ) -> Result<Input, Refusal>
     ensures judgement { result ≡ judgement plan.now kind name.now period value }
-    ensures fits { IfOk result (IsFitting (length plan.now.names)) }
+    ensures fits { IfOk result (FitsPlan plan.now) }
 {
     let Some(leaf) = leaf_with_name(plan, name) else {
         return Err(Refusal::Unknown);
@@ -66,9 +68,10 @@ pub(crate) fn judge_input(
 }
 
 /// The number of the leaf that has a name, or none where no item has it or the item isn't a leaf.
-fn leaf_with_name(plan: &Plan, name: &[u8]) -> Option<u16>
-    ensures leaf { result ≡ leaf_with_name_of plan.now name.now }
-    ensures within { IfSome result (λ leaf. leaf < length plan.now.names) }
+pub fn leaf_with_name(plan: &Plan, name: &[u8]) -> Option<u16>
+    ensures named { result ≡ leaf_with_name_of plan.now name.now }
+    ensures within { IfSome result (λ item. item < length plan.now.names) }
+    ensures leaf { IfSome result (λ item. IsTrue (is_leaf plan.now item)) }
 {
     match plan.find(name) {
         Some(item) if plan.is_leaf(item) => Some(item),

@@ -5,8 +5,8 @@ mod judging;
 mod lines;
 mod requests;
 
-pub use judging::{RawInput, Refusal, judge};
-pub use lines::{Cause, Judged, each_line_counts_once, judge_line, lines_go_on};
+pub use judging::{RawInput, Refusal, judge, judge_input, leaf_with_name};
+pub use lines::{Cause, Judged, cause_of, each_line_counts_once, judge_line, lines_go_on};
 pub use requests::{LineInput, Request, line_fields, read_request};
 
 #[cfg(test)]

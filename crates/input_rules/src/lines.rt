@@ -3,7 +3,7 @@
 ghost use Rattle.std.specs.Prelude.{◌≡◌, ◌≤◌, ◌+◌, ◌++◌, ◌∷◌, [], List, length, count_by, IfOk, IfSome};
 ghost use Rattle.std.specs.Option.{option_to_list};
 ghost use Rattle.series_tables.specs.Plan.{PlanShape};
-ghost use Rattle.series_tables.specs.LastValue.{IsFitting};
+ghost use Rattle.series_tables.specs.Fits.{FitsPlan};
 ghost use Rattle.line_form.specs.Lines.{TextLine, line_view};
 ghost use Rattle.input_rules.specs.Lines.{cause_text, cause_of as cause_of_refusal, judged_input, judged_request, judged_line};
 ghost use Rattle.input_rules.specs.Accepted.{most_inputs, judged_lines, is_passed, taken, accepted_of, accepted_next, refused_next, refusals_of};
@@ -60,14 +60,14 @@ pub enum Judged {
     Refused(Cause),
 }
 
-/// Judges a line of an input by the plan. An input that is taken fits the plan's leaves.
+/// Judges a line of an input by the plan. An input that is taken fits the plan.
 ///
 /// The causes come in the order of `Cause`: `Long`, `Form`, `Unknown`, `Zero`, `Range`, each exactly where no
 /// earlier one applies and its own test fails. `Full` never comes: it is for the caller, who counts the inputs.
 #[tactic(auto, unfolding(crate::specs::Lines::judged_line))]
 pub fn judge_line(alloc: Global, plan: &Plan, line: &Line) -> Result<Judged, Memory>
     ensures judged { IfOk result (λ judged. judged ≡ judged_line plan.now (line_view line.now)) }
-    ensures fits { IfOk result (λ judged. IfSome (taken judged) (IsFitting (length plan.now.names))) }
+    ensures fits { IfOk result (λ judged. IfSome (taken judged) (FitsPlan plan.now)) }
 {
     let fields = match line_fields(alloc, line) {
         Ok(Some(fields)) => fields,
@@ -85,20 +85,33 @@ pub fn judge_line(alloc: Global, plan: &Plan, line: &Line) -> Result<Judged, Mem
 /// Of any lines each is passed over, or its input is accepted, or it is refused: none is lost, and none counts twice. At
 /// most 262,144 inputs are accepted.
 pub fn each_line_counts_once()
-    ensures once { (plan : PlanShape) (lines : List TextLine) → length (accepted_of plan lines) + length (refusals_of plan lines) + count_by is_passed (judged_lines plan lines) ≡ length lines }
-    ensures few { (plan : PlanShape) (lines : List TextLine) → length (accepted_of plan lines) ≤ most_inputs }
+    ensures once { (plan : PlanShape) (lines : List TextLine) →
+        length (accepted_of plan lines) + length (refusals_of plan lines)
+        + count_by is_passed (judged_lines plan lines)
+        ≡ length lines }
+    ensures few { (plan : PlanShape) (lines : List TextLine) →
+        length (accepted_of plan lines) ≤ most_inputs }
 {}
 
 /// One line more adds what it gives to the accepted inputs and to the refused lines of those before it.
 pub fn lines_go_on()
-    ensures accepted { (plan : PlanShape) (lines : List TextLine) (line : TextLine) → accepted_of plan (lines ++ line ∷ []) ≡ accepted_of plan lines ++ option_to_list (accepted_next (length (accepted_of plan lines)) (judged_line plan line)) }
-    ensures refused { (plan : PlanShape) (lines : List TextLine) (line : TextLine) → refusals_of plan (lines ++ line ∷ []) ≡ refusals_of plan lines ++ option_to_list (refused_next (length (accepted_of plan lines)) line.number (judged_line plan line)) }
+    ensures accepted { (plan : PlanShape) (lines : List TextLine) (line : TextLine) →
+        accepted_of plan (lines ++ line ∷ [])
+        ≡ accepted_of plan lines
+        ++ option_to_list
+        (accepted_next (length (accepted_of plan lines)) (judged_line plan line)) }
+    ensures refused { (plan : PlanShape) (lines : List TextLine) (line : TextLine) →
+        refusals_of plan (lines ++ line ∷ [])
+        ≡ refusals_of plan lines
+        ++ option_to_list
+        (refused_next (length (accepted_of plan lines)) line.number
+        (judged_line plan line)) }
 {}
 
 /// Judges what a line asks for.
 fn judge_request(plan: &Plan, request: Request<'_>) -> Judged
     ensures judged { result ≡ judged_request plan.now (request_view request.entry) }
-    ensures fits { IfSome (taken result) (IsFitting (length plan.now.names)) }
+    ensures fits { IfSome (taken result) (FitsPlan plan.now) }
 {
     match request {
         Request::Input(input) => {
@@ -114,7 +127,7 @@ fn judge_request(plan: &Plan, request: Request<'_>) -> Judged
 }
 
 /// The cause of a line whose input is refused.
-fn cause_of(refusal: Refusal) -> Cause
+pub fn cause_of(refusal: Refusal) -> Cause
     ensures { result ≡ cause_of_refusal refusal }
 {
     match refusal {

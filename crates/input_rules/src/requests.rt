@@ -4,11 +4,11 @@ ghost use Rattle.std.specs.Prelude.{◌≡◌, ◌↔◌, ◌∷◌, [], true, I
 ghost use Rattle.line_form.specs.Lines.{line_view};
 ghost use Rattle.line_form.specs.Number.{number_of};
 ghost use Rattle.period_keys.specs.Period.{year_of, quarter_of};
-ghost use Rattle.input_rules.specs.Requests.{kind_of, year_place as year_place_of, quarter_place as quarter_place_of, period_of, value_of, is_desk as is_desk_of, input_of_kind, request_of, is_passed_over as is_passed_over_of, fields_of_line};
+ghost use Rattle.input_rules.specs.Requests.{kind_of, year_place as year_place_of, quarter_place as quarter_place_of, period_of, value_of, is_desk as is_desk_of, input_of_kind, request_of, fields_of_line};
 ghost use Rattle.input_rules.specs.Views.{request_view};
 
 use crate::lines::Cause;
-use line_form::{Fields, Line, LineFault, fields, read_number};
+use line_form::{Fields, Line, LineFault, fields, is_passed_over, read_number};
 use period_keys::{PeriodFault, read_quarter, read_year};
 use series_tables::Kind;
 use std::alloc::Global;
@@ -58,22 +58,12 @@ pub fn line_fields(alloc: Global, line: &Line) -> Result<Option<Fields<'_>>, Lin
     ensures long { (result ≡ Err LineFault.Long) ↔ (line.now.long ≡ true) }
     ensures form { (result ≡ Err LineFault.Form) ↔ (fields_of_line (line_view line.now) ≡ Err Cause.Form) }
 {
-    if !line.long && is_passed_over(&line.text) {
+    if is_passed_over(line) {
         return Ok(None);
     }
     match fields(alloc, line) {
         Ok(read) => Ok(Some(read)),
         Err(fault) => Err(fault),
-    }
-}
-
-/// Whether a line with these bytes is passed over.
-fn is_passed_over(text: &[u8]) -> bool
-    ensures { result ≡ is_passed_over_of text.now }
-{
-    match text {
-        [] => true,
-        [first, ..] => *first == b'#',
     }
 }
 
@@ -127,7 +117,9 @@ fn read_named<'a>(word: &[u8], name: &'a [u8]) -> Option<Request<'a>>
 /// The input that the first four fields spell.
 fn read_input<'a>(start: u16, fields: &'a Fields<'_>) -> Option<Request<'a>>
     requires { 4 ≤ length fields.now }
-    ensures { option_map request_view result ≡ input_of_kind (kind_of (get_or fields.now 0 [])) start (get_or fields.now 1 []) (get_or fields.now 2 []) (get_or fields.now 3 []) }
+    ensures { option_map request_view result
+        ≡ input_of_kind (kind_of (get_or fields.now 0 [])) start
+        (get_or fields.now 1 []) (get_or fields.now 2 []) (get_or fields.now 3 []) }
 {
     let kind = read_kind(fields.get(0))?;
     let period = read_period(kind, start, fields.get(2))?;
