@@ -1,7 +1,7 @@
 -- What holds of each sum, and of its cells.
-use Rattle.std.proofs.Common.{◌≡◌, ◌∙◌, ap, sym, refl, subst, ℕ, zero, suc, ◌+◌, ◌<◌, nat_lt, ℤ, Bool, true, false, if◌then◌else◌, List, [], ◌∷◌, length, get_or, arith}
+use Rattle.std.proofs.Common.{◌≡◌, ◌∙◌, ap, sym, refl, subst, ℕ, zero, suc, ◌+◌, ◌<◌, ◌≤◌, nat_lt, ℤ, Bool, true, false, if◌then◌else◌, List, [], ◌∷◌, length, get_or, arith}
 use Rattle.std.specs.List.{All, prefix_len, take_while}
-use Rattle.std.proofs.lemmas.List.{get_or_default}
+use Rattle.std.proofs.lemmas.List.{get_or_default, length-map, length-take}
 use Rattle.std.proofs.lemmas.List.Elements.{All-map, All-take}
 use Rattle.price_base.specs.declared.Cell.{Cell}
 use Rattle.price_base.specs.declared.Cell.TheVariants.{Missing, Value, NoBase, Range}
@@ -40,6 +40,10 @@ same_cells_length (x ∷ value) [] same present = absurd (omega arith)
 same_cells_length (x ∷ value) (y ∷ prev) same present =
     length-cells_of x value ∙ ap (λ n. if nat_lt 0 n then suc (length (cells_of value)) else 0) (present zero)
     ∙ ap (λ n. if is_reached y then suc n else 0) (same_cells_length value prev (omega arith) (λ t. present (suc t))) ∙ sym (length-cells_of y prev)
+
+-- a sum has no more cells than it has room for
+pub cells_few : (tallies : List Tally) → length (cells_of tallies) ≤ length tallies
+cells_few tallies = omega (arith, length-map (take_while is_reached tallies) cell_of, length-take (prefix_len is_reached tallies) tallies)
 
 -- no cell of a sum is the mark of a link
 cell_flow : (missing no_base range : Bool) (sum : ℤ) → IsFlow (if missing then Missing else (if no_base then NoBase else (if range then Range else Value sum)))

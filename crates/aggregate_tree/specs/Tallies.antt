@@ -1,10 +1,10 @@
 -- What a sum keeps of each quarter, so that its cell is known and a child can be put in or taken out: the sum of the values, and how many of the
 -- children's cells are of each mark. It is this product's own.
-use Rattle.std.specs.Prelude.{◌≡◌, ℕ, ◌+◌, ◌^◌, ◌*◌, ◌≤◌, ◌<◌, nat_lt, ℤ, pos, ◌+ℤ◌, Bool, if◌then◌else◌, List, [], ◌∷◌, map, length, unsigned_abs, slice_get, slice_index_or, Option, Some, None}
+use Rattle.std.specs.Prelude.{◌≡◌, ℕ, ◌+◌, ◌^◌, ◌*◌, ◌≤◌, ◌<◌, nat_lt, ℤ, pos, ◌+ℤ◌, Bool, if◌then◌else◌, List, [], ◌∷◌, map, length, unsigned_abs, slice_get, slice_index_or, Option, Some, None, IfSome}
 use Rattle.std.specs.List.{range_with_len, take_while}
 use Rattle.price_base.specs.declared.Cell.{Cell}
 use Rattle.price_base.specs.declared.Cell.TheVariants.{Missing, Value, NoBase, NoLink, Range}
-use Rattle.price_base.specs.Cells.{is_missing, is_no_base, is_range, total}
+use Rattle.price_base.specs.Cells.{is_missing, is_no_base, is_range, number_of, total}
 use Rattle.aggregate_tree.specs.declared.tally.Tally.{Tally}
 use Rattle.aggregate_tree.specs.Leaves.{cells_at, longest}
 
@@ -85,15 +85,7 @@ AreVolumeSums tallies = (t : ℕ) → IsVolumeSum (tally_at tallies t).sum
 
 -- a cell of values, or of volumes, whose number, where it has one, is in the range of sums
 abbrev pub IsValueInRange : Cell → Type 0
-IsValueInRange (Value value) = IsValueSum value
-IsValueInRange Missing = Unit {0}
-IsValueInRange NoBase = Unit {0}
-IsValueInRange NoLink = Unit {0}
-IsValueInRange Range = Unit {0}
+IsValueInRange cell = IfSome (number_of cell) IsValueSum
 
 abbrev pub IsVolumeInRange : Cell → Type 0
-IsVolumeInRange (Value volume) = IsVolumeSum volume
-IsVolumeInRange Missing = Unit {0}
-IsVolumeInRange NoBase = Unit {0}
-IsVolumeInRange NoLink = Unit {0}
-IsVolumeInRange Range = Unit {0}
+IsVolumeInRange cell = IfSome (number_of cell) IsVolumeSum

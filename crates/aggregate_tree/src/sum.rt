@@ -89,6 +89,7 @@ impl FlowSum {
     /// are values, else the first mark among them in the order missing, no base, range; a child that ends before the quarter counts as missing. Where
     /// each child is the sum over the leaves under it, so is the sum.
     pub fn flows(&self) -> Result<NodeFlows, Memory>
+        ensures few { IfOk result (λ flows. length flows.value ≤ 512) }
         ensures value { IfOk result (λ flows. flows.value ≡ cells_of self.now.value) }
         ensures prev { IfOk result (λ flows. flows.prev ≡ cells_of self.now.prev) }
         ensures value_of_children { (lists : List (List Cell)) → IsSumOf lists self.now.value → IfOk result (λ flows. flows.value ≡ added lists) }

@@ -14,6 +14,7 @@ use Rattle.price_base.specs.declared.Cell.TheVariants.{Missing, Value, NoBase, N
 use Rattle.price_base.specs.Cells.{cell_at, combined, total, is_missing, is_no_base, is_range}
 use Rattle.annual_overlap.specs.Years.{quarters_in, year_cell, years_of, number_or}
 use Rattle.annual_overlap.specs.Quarters.{complete_year, rate_at, chained_year, chained_in, chained_at, chained_of}
+use Rattle.annual_overlap.specs.Table.{AreNumbersAddingTo}
 use Rattle.annual_overlap.proofs.YearSums.{parts_total, total_from_combined, year_at}
 
 -- the quarters of one year are made at once
@@ -79,15 +80,15 @@ four_there quarters y number e = by (nat_lt (4 * y + 3) (length quarters)) refl
     by true less = grind (arith, less)
     by false less = absurd (last_there (cell_at quarters (4 * y)) (cell_at quarters (4 * y + 1)) (cell_at quarters (4 * y + 2)) (cell_at quarters (4 * y + 3)) number e (get_or_past quarters (4 * y + 3) Missing (grind (arith, less))))
 
--- four numbers as cells add up
-four_values : (xs : List ℤ) → length xs ≡ 4 →
-    combined (cell_at (map Value xs) 0 ∷ cell_at (map Value xs) 1 ∷ cell_at (map Value xs) 2 ∷ cell_at (map Value xs) 3 ∷ []) ≡ Value (sum_of xs)
-four_values (a ∷ b ∷ c ∷ d ∷ []) h = refl
-four_values [] h = absurd (omega arith)
-four_values (a ∷ []) h = absurd (omega arith)
-four_values (a ∷ b ∷ []) h = absurd (omega arith)
-four_values (a ∷ b ∷ c ∷ []) h = absurd (omega arith)
-four_values (a ∷ b ∷ c ∷ d ∷ e ∷ xs) h = absurd (omega arith)
+-- four numbers as cells, place by place
+four_listed : (xs : List ℤ) → length xs ≡ 4 →
+    ◌≡◌ {A = List Cell} (cell_at (map Value xs) 0 ∷ cell_at (map Value xs) 1 ∷ cell_at (map Value xs) 2 ∷ cell_at (map Value xs) 3 ∷ []) (map Value xs)
+four_listed (a ∷ b ∷ c ∷ d ∷ []) h = refl
+four_listed [] h = absurd (omega arith)
+four_listed (a ∷ []) h = absurd (omega arith)
+four_listed (a ∷ b ∷ []) h = absurd (omega arith)
+four_listed (a ∷ b ∷ c ∷ []) h = absurd (omega arith)
+four_listed (a ∷ b ∷ c ∷ d ∷ e ∷ xs) h = absurd (omega arith)
 
 -- the parts of a level stand in a share-out
 can_share : (level volume : ℤ) (quarters : List Cell) (y : ℕ) → pos 0 <ℤ volume → total (quarters_in quarters y) ≡ volume →
@@ -113,14 +114,13 @@ shared_year level volume quarters positive = by (int_le volume (pos 0)) refl
 plus_nothing : (k : ℕ) → k ≡ k + 0
 plus_nothing k = omega arith
 
--- sums of equal cells
-four_same : (a b c d e f g h : Cell) → a ≡ e → b ≡ f → c ≡ g → d ≡ h → combined (a ∷ b ∷ c ∷ d ∷ []) ≡ combined (e ∷ f ∷ g ∷ h ∷ [])
-four_same a b c d e f g h p q r s =
-    ap (λ x. combined (x ∷ b ∷ c ∷ d ∷ [])) p ∙ ap (λ x. combined (e ∷ x ∷ c ∷ d ∷ [])) q ∙ ap (λ x. combined (e ∷ f ∷ x ∷ d ∷ [])) r ∙ ap (λ x. combined (e ∷ f ∷ g ∷ x ∷ [])) s
+-- lists of equal cells
+four_same : (a b c d e f g h : Cell) → a ≡ e → b ≡ f → c ≡ g → d ≡ h → ◌≡◌ {A = List Cell} (a ∷ b ∷ c ∷ d ∷ []) (e ∷ f ∷ g ∷ h ∷ [])
+four_same a b c d e f g h p q r s = rw (p, q, r, s) refl
 
--- the four quarters of a complete year add up to its level
+-- the four quarters of a complete year are numbers that add up to its level
 pub year_adds_up : (values levels quarters : List Cell) (y : ℕ) (value volume level : ℤ) → cell_at values y ≡ Value value → cell_at (years_of quarters) y ≡ Value volume → cell_at levels y ≡ Value level →
-    pos 0 <ℤ volume → year_cell (chained_of values (years_of quarters) levels quarters) y ≡ Value level
+    pos 0 <ℤ volume → AreNumbersAddingTo level (quarters_in (chained_of values (years_of quarters) levels quarters) y)
 year_adds_up values levels quarters y value volume level ev ek el positive = elim (year_at quarters y) [
   | inl e ↦ there (sym e ∙ ek)
   | inr e ↦ absurd (apart volume (sym ek ∙ e))
@@ -129,7 +129,7 @@ year_adds_up values levels quarters y value volume level ev ek el positive = eli
     apart : (number : ℤ) → Value number ≡ Missing → ⊥
     apart number h = cc
 
-    there : year_cell quarters y ≡ Value volume → year_cell (chained_of values (years_of quarters) levels quarters) y ≡ Value level
+    there : year_cell quarters y ≡ Value volume → AreNumbersAddingTo level (quarters_in (chained_of values (years_of quarters) levels quarters) y)
     there e =
         let inside : 4 * y + 3 < length quarters = four_there quarters y volume e in
         let volumes : List Cell = years_of quarters in
@@ -146,4 +146,4 @@ year_adds_up values levels quarters y value volume level ev ek el positive = eli
         let q1 : cell_at (chained_of values volumes levels quarters) (4 * y + 1) ≡ cell_at (map Value shares) 1 = quarter_of values volumes levels quarters y 1 (omega arith) (omega arith) ∙ ap (λ (list : List Cell). cell_at list 1) made in
         let q2 : cell_at (chained_of values volumes levels quarters) (4 * y + 2) ≡ cell_at (map Value shares) 2 = quarter_of values volumes levels quarters y 2 (omega arith) (omega arith) ∙ ap (λ (list : List Cell). cell_at list 2) made in
         let q3 : cell_at (chained_of values volumes levels quarters) (4 * y + 3) ≡ cell_at (map Value shares) 3 = quarter_of values volumes levels quarters y 3 (omega arith) (omega arith) ∙ ap (λ (list : List Cell). cell_at list 3) made in
-        four_same _ _ _ _ _ _ _ _ q0 q1 q2 q3 ∙ four_values shares law.same_length ∙ ap Value law.adds_up
+        (shares, four_same _ _ _ _ _ _ _ _ q0 q1 q2 q3 ∙ four_listed shares law.same_length, law.adds_up)

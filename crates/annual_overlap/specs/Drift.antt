@@ -1,9 +1,9 @@
 -- What the drift of a level is worth: how far the level can be from the exact chained volume, which is never rounded. It is this product's own.
-use Rattle.std.specs.Prelude.{◌≡◌, ℕ, ◌+◌, ◌-◌, zero, suc, ℤ, pos, ◌*ℤ◌, ◌<ℤ◌, List}
+use Rattle.std.specs.Prelude.{◌≡◌, ℕ, ◌+◌, ◌-◌, zero, suc, ℤ, pos, ◌*ℤ◌, ◌<ℤ◌, List, IsSomeAnd}
 use Rattle.ratio_arith.specs.Nearness.{IsNear}
 use Rattle.price_base.specs.declared.Cell.{Cell}
-use Rattle.price_base.specs.declared.Cell.TheVariants.{Missing, Value, NoBase, NoLink, Range}
-use Rattle.price_base.specs.Cells.{cell_at}
+use Rattle.price_base.specs.declared.Cell.TheVariants.{Value}
+use Rattle.price_base.specs.Cells.{cell_at, number_of}
 use Rattle.annual_overlap.specs.Years.{number_or}
 
 -- the product of the numbers of so many years from a year on; it is one where there are none
@@ -22,13 +22,11 @@ exact_den values volumes reference y = product_from values reference (y - refere
 
 -- a level in ten-thousandths is apart from the fraction num/den, which has a positive den, by at most the drift
 abbrev pub IsWithinDrift : ℤ → Cell → ℤ → ℤ → Type 0
-IsWithinDrift level (Value drift) num den = (pos 0 <ℤ den) × IsNear (pos 10000 *ℤ num) (level *ℤ den) (drift *ℤ den)
-IsWithinDrift level Missing num den = ⊥
-IsWithinDrift level NoBase num den = ⊥
-IsWithinDrift level NoLink num den = ⊥
-IsWithinDrift level Range num den = ⊥
+IsWithinDrift level cell num den =
+    IsSomeAnd (number_of cell) (λ drift. (pos 0 <ℤ den) × IsNear (pos 10000 *ℤ num) (level *ℤ den) (drift *ℤ den))
 
 -- each level that is a number is within its drift, which is then a number, of ten thousand times the exact chained volume
 abbrev pub AreWithinDrift : List Cell → List Cell → ℕ → List Cell → List Cell → Type 0
 AreWithinDrift values volumes reference levels drifts =
-    (y : ℕ) (level : ℤ) → cell_at levels y ≡ Value level → IsWithinDrift level (cell_at drifts y) (exact_num values volumes reference y) (exact_den values volumes reference y)
+    (y : ℕ) (level : ℤ) → cell_at levels y ≡ Value level →
+    IsWithinDrift level (cell_at drifts y) (exact_num values volumes reference y) (exact_den values volumes reference y)

@@ -1,8 +1,7 @@
 -- The sizes that ratios and levels keep to.
-use Rattle.std.specs.Prelude.{◌≡◌, List, ◌^◌, ◌*◌, ◌≤◌, pos, ◌<ℤ◌, ◌≤ℤ◌, unsigned_abs}
+use Rattle.std.specs.Prelude.{◌≡◌, List, ◌^◌, ◌*◌, ◌≤◌, pos, ◌<ℤ◌, ◌≤ℤ◌, unsigned_abs, IfSome}
 use Rattle.price_base.specs.declared.Cell.{Cell}
-use Rattle.price_base.specs.declared.Cell.TheVariants.{Missing, Value, NoBase, NoLink, Range}
-use Rattle.price_base.specs.Cells.{total}
+use Rattle.price_base.specs.Cells.{number_of, total}
 use Rattle.annual_overlap.specs.declared.Ratio.{Ratio}
 use Rattle.annual_overlap.specs.declared.Ratio.TheVariants.{Of, Broken}
 use Rattle.annual_overlap.specs.declared.Point.{Point}
@@ -25,8 +24,4 @@ IsSmallRate (Broken mark) = Unit {0}
 
 -- a year's volume, where it is a number, is the sum of the volumes of its quarters
 abbrev pub IsTotalOf : Cell → List Cell → Type 0
-IsTotalOf (Value number) quarters = total quarters ≡ number
-IsTotalOf Missing quarters = Unit {0}
-IsTotalOf NoBase quarters = Unit {0}
-IsTotalOf NoLink quarters = Unit {0}
-IsTotalOf Range quarters = Unit {0}
+IsTotalOf cell quarters = IfSome (number_of cell) (λ number. total quarters ≡ number)

@@ -3,8 +3,9 @@ use Rattle.std.specs.Prelude.{◌≡◌, ℕ, ℤ, pos, ◌<ℤ◌, List, map}
 use Rattle.price_base.specs.declared.Cell.{Cell}
 use Rattle.price_base.specs.declared.Cell.TheVariants.{Value}
 use Rattle.price_base.specs.Cells.{cell_at}
+use Rattle.sum_rounding.specs.ShareOut.{sum_of}
 use Rattle.annual_overlap.specs.declared.ChainTable.{ChainTable}
-use Rattle.annual_overlap.specs.Years.{year_cell, years_of}
+use Rattle.annual_overlap.specs.Years.{quarters_in, years_of}
 use Rattle.annual_overlap.specs.Chain.{points_of, level_cell, drift_cell}
 use Rattle.annual_overlap.specs.Quarters.{chained_of}
 
@@ -22,7 +23,12 @@ chain_of value prev reference =
       quarter = chained_of values volumes levels prev;
     }
 
--- the quarters of each complete year with a level and a volume above zero are numbers that add up to the level
+-- cells are all numbers, and these add up to that sum; no mark is among them
+abbrev pub AreNumbersAddingTo : ℤ → List Cell → Type 0
+AreNumbersAddingTo sum cells = (numbers : List ℤ) × (cells ≡ map Value numbers) × (sum_of numbers ≡ sum)
+
+-- the quarters of each complete year with a level and a volume above zero are four numbers that add up to the level
 abbrev pub DoQuartersAddUp : ChainTable → Type 0
-DoQuartersAddUp table = (y : ℕ) (value volume level : ℤ) → cell_at table.value y ≡ Value value → cell_at table.prev y ≡ Value volume → cell_at table.level y ≡ Value level →
-    pos 0 <ℤ volume → year_cell table.quarter y ≡ Value level
+DoQuartersAddUp table =
+    (y : ℕ) (value volume level : ℤ) → cell_at table.value y ≡ Value value → cell_at table.prev y ≡ Value volume →
+    cell_at table.level y ≡ Value level → pos 0 <ℤ volume → AreNumbersAddingTo level (quarters_in table.quarter y)

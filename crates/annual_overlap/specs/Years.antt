@@ -1,9 +1,8 @@
 -- Figures of the years of an item, each from the four quarters of the year.
-use Rattle.std.specs.Prelude.{ℕ, ◌+◌, ◌*◌, ◌/◌, ◌≤◌, ℤ, List, [], ◌∷◌, map, length, unsigned_abs}
+use Rattle.std.specs.Prelude.{ℕ, ◌+◌, ◌*◌, ◌/◌, ◌≤◌, ℤ, List, [], ◌∷◌, map, length, unsigned_abs, IfSome, unwrap_or}
 use Rattle.std.specs.List.{range_with_len}
 use Rattle.price_base.specs.declared.Cell.{Cell}
-use Rattle.price_base.specs.declared.Cell.TheVariants.{Missing, Value, NoBase, NoLink, Range}
-use Rattle.price_base.specs.Cells.{cell_at, combined}
+use Rattle.price_base.specs.Cells.{cell_at, combined, number_of}
 
 -- how many years have one of so many quarters
 abbrev pub year_count : ℕ → ℕ
@@ -23,16 +22,8 @@ years_of cells = map (year_cell cells) (range_with_len 0 (year_count (length cel
 
 -- the number in a cell; a mark has none, and stands for a number that does not matter
 abbrev pub number_or : ℤ → Cell → ℤ
-number_or other (Value number) = number
-number_or other Missing = other
-number_or other NoBase = other
-number_or other NoLink = other
-number_or other Range = other
+number_or other cell = unwrap_or (number_of cell) other
 
 -- a cell whose number, where it has one, is at most so large in size
 abbrev pub IsSizedCell : ℕ → Cell → Type 0
-IsSizedCell size (Value number) = unsigned_abs number ≤ size
-IsSizedCell size Missing = Unit {0}
-IsSizedCell size NoBase = Unit {0}
-IsSizedCell size NoLink = Unit {0}
-IsSizedCell size Range = Unit {0}
+IsSizedCell size cell = IfSome (number_of cell) (λ number. unsigned_abs number ≤ size)

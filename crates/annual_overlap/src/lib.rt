@@ -16,7 +16,7 @@ mod levels;
 mod quarters;
 mod years;
 
-/// A ratio of two whole numbers above zero that is never rounded, or the mark that says why there is none.
+/// A ratio of two whole numbers that is never rounded, the second of them above zero, or the mark that says why there is none.
 #[derive(Clone, Copy)]
 pub enum Ratio {
     /// There is no ratio.

@@ -1,4 +1,5 @@
 pub mod EndRatios
+pub mod LevelSum
 pub mod Machine
 pub mod Reach
 pub mod SameYears

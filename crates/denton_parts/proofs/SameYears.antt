@@ -5,7 +5,8 @@ use Rattle.std.proofs.Common.{sym, ◌∙◌, ap, arith}
 use Rattle.std.proofs.Props.{props}
 use Rattle.std.proofs.lemmas.Int.{ints, clamps}
 use Rattle.denton_parts.specs.Year.{IsIndicator, AreIndicators, IsBenchmark, year_sum, sums_before}
-use Rattle.denton_parts.specs.Years.{indicator_within, benchmark_within, year_of}
+use Rattle.denton_parts.specs.Within.{indicator_within, benchmark_within}
+use Rattle.denton_parts.specs.Years.{year_of}
 use Rattle.denton_parts.specs.declared.year.YearPart.{YearPart}
 
 -- years with equal indicators and an equal benchmark are equal

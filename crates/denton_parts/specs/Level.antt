@@ -1,5 +1,5 @@
 -- The scaled levels of a year's ratio (this product's own form of the proportional solution of chapter 6).
-use Rattle.std.specs.Prelude.{ℕ, ◌^◌, ℤ, pos, ◌+ℤ◌, ◌-ℤ◌, ◌*ℤ◌, List, [], ◌∷◌, slice_index, slice_index_or}
+use Rattle.std.specs.Prelude.{◌≡◌, ℕ, ◌^◌, ℤ, pos, ◌+ℤ◌, ◌-ℤ◌, ◌*ℤ◌, List, [], ◌∷◌, slice_index, slice_index_or}
 use Rattle.ratio_arith.specs.Division.{floor_of}
 use Rattle.denton_parts.specs.Year.{year_sum, change_in_year}
 
@@ -15,6 +15,21 @@ rises indicators left right = pos 0 ∷ floored_change indicators left right 1 �
 abbrev pub weighed_rises : List ℕ → ℤ → ℤ → ℤ
 weighed_rises indicators left right = pos (slice_index indicators 1) *ℤ slice_index_or (rises indicators left right) 1 (pos 0) +ℤ pos (slice_index indicators 2) *ℤ slice_index_or (rises indicators left right) 2 (pos 0) +ℤ pos (slice_index indicators 3) *ℤ slice_index_or (rises indicators left right) 3 (pos 0)
 
--- a quarter's level: its ratio times the scale and the year's indicator sum. The indicators times their levels add up to the scale, the sum and the benchmark
+-- a quarter's level: its ratio times the scale and the year's indicator sum
 abbrev pub level_of : List ℕ → ℤ → ℕ → ℤ → ℤ → ℕ → ℤ
-level_of indicators benchmark k left right quarter = pos (10 ^ k) *ℤ benchmark -ℤ weighed_rises indicators left right +ℤ pos (year_sum indicators) *ℤ slice_index_or (rises indicators left right) quarter (pos 0)
+level_of indicators benchmark k left right quarter =
+    pos (10 ^ k) *ℤ benchmark -ℤ weighed_rises indicators left right
+    +ℤ pos (year_sum indicators) *ℤ slice_index_or (rises indicators left right) quarter (pos 0)
+
+-- a quarter's indicator times its level
+abbrev pub weighed_level : List ℕ → ℤ → ℕ → ℤ → ℤ → ℕ → ℤ
+weighed_level indicators benchmark k left right quarter =
+    pos (slice_index indicators quarter) *ℤ level_of indicators benchmark k left right quarter
+
+-- the law that a year's levels keep its benchmark, whatever the multipliers: its four indicators times their levels add up to the scale times the sum
+-- of the indicators times the benchmark
+abbrev pub LevelsAddUp : Type 0
+LevelsAddUp = (indicators : List ℕ) (benchmark : ℤ) (k : ℕ) (left right : ℤ) →
+    weighed_level indicators benchmark k left right 0 +ℤ weighed_level indicators benchmark k left right 1
+    +ℤ weighed_level indicators benchmark k left right 2 +ℤ weighed_level indicators benchmark k left right 3
+    ≡ (pos (10 ^ k) *ℤ pos (year_sum indicators)) *ℤ benchmark

@@ -4,5 +4,6 @@ pub mod Gap
 pub mod Level
 pub mod Ratios
 pub mod Scale
+pub mod Within
 pub mod Year
 pub mod Years

@@ -1,27 +1,9 @@
 -- Benchmarked years and plain numbers: the years that numbers give, and the numbers of a run of years (the ranges and the reach are this product's own).
-use Rattle.std.specs.Prelude.{ℕ, ◌*◌, ◌^◌, ◌≤◌, ℤ, pos, neg_ℤ, List, [], ◌∷◌, map, min, max, slice_index, unsigned_abs}
-use Rattle.std.specs.Int.{int_min, int_max}
-use Rattle.std.proofs.Common.{refl, arith}
-use Rattle.std.proofs.lemmas.Int.{ints, clamps}
-use Rattle.denton_parts.specs.Year.{IsIndicator, AreIndicators, IsBenchmark, year_sum, sums_before}
+use Rattle.std.specs.Prelude.{ℕ, ◌*◌, ◌^◌, ◌≤◌, ℤ, pos, List, [], ◌∷◌, map, slice_index, unsigned_abs}
+use Rattle.std.proofs.Common.{refl}
+use Rattle.denton_parts.specs.Within.{indicator_within, benchmark_within, cut_indicators, cut_benchmark}
+use Rattle.denton_parts.specs.Year.{year_sum, sums_before}
 use Rattle.denton_parts.specs.declared.year.YearPart.{YearPart}
-
--- a number cut to the range of indicators: it is itself where it is an indicator
-abbrev pub indicator_within : ℕ → ℕ
-indicator_within n = min (max 1 n) (10 ^ 9)
-
--- a number cut to the range of benchmarks: it is itself where it is a benchmark
-abbrev pub benchmark_within : ℤ → ℤ
-benchmark_within z = int_max (neg_ℤ (pos (10 ^ 12))) (int_min z (pos (10 ^ 12)))
-
-cut_indicator : (n : ℕ) → IsIndicator (indicator_within n)
-cut_indicator n = (omega arith, omega arith)
-
-pub cut_indicators : (a b c d : ℕ) → AreIndicators (indicator_within a ∷ indicator_within b ∷ indicator_within c ∷ indicator_within d ∷ [])
-cut_indicators a b c d = record { first = cut_indicator a; second = cut_indicator b; third = cut_indicator c; fourth = cut_indicator d }
-
-pub cut_benchmark : (z : ℤ) → IsBenchmark (benchmark_within z)
-cut_benchmark z = omega (arith, ints, clamps)
 
 -- the year of four indicators and a benchmark. A year keeps its numbers in range, so any that aren't are cut; no accepted input is out of range
 abbrev pub year_of : ℕ → ℕ → ℕ → ℕ → ℤ → YearPart

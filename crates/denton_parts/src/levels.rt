@@ -1,7 +1,7 @@
 //! The scaled levels of a year's ratio.
 
 ghost use Rattle.std.specs.Prelude.{◌≡◌, ◌≤◌, ◌<◌, ◌+◌, ◌*◌, ◌^◌, pos, ◌+ℤ◌, ◌-ℤ◌, ◌*ℤ◌, ◌≤ℤ◌, ◌<ℤ◌, length, slice_index, slice_index_or, unsigned_abs};
-ghost use Rattle.denton_parts.specs.Level.{level_of, rises, weighed_rises};
+ghost use Rattle.denton_parts.specs.Level.{level_of, rises, weighed_rises, LevelsAddUp};
 ghost use Rattle.denton_parts.specs.Year.{IsIndicator, IsMultiplier, year_sum};
 
 mod ends;
@@ -34,6 +34,11 @@ pub fn level(part: &YearPart, scale: u8, left: i128, right: i128, j: usize) -> i
     );
     raised(base, weighed, part.sum, rises[j])
 }
+
+/// Law: whatever the multipliers are, the four indicators of a year times their levels add up to 10^scale times the sum of the indicators times the benchmark.
+pub fn levels_add_up()
+    ensures law { LevelsAddUp }
+{}
 
 /// What the levels of the year are counted in: 10^scale times the year's indicator sum. A level over it is the quarter's benchmark-to-indicator ratio.
 pub fn level_unit(part: &YearPart, scale: u8) -> i128

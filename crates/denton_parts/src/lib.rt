@@ -12,7 +12,7 @@ ghost use Rattle.ratio_arith.specs.Division.{floor_of, ceil_of};
 ghost use Rattle.denton_parts.specs.Changes.{Fraction};
 ghost use Rattle.denton_parts.specs.Year.{IsMultiplier, year_sum, change_in_year};
 
-pub use levels::{Ends, ends_of, level, level_unit};
+pub use levels::{Ends, ends_of, level, level_unit, levels_add_up};
 pub use quotient::{Quotient, quotient_of};
 use ratio_arith::{ceil_div, floor_div};
 pub use scale::scale_of;

@@ -17,7 +17,7 @@ use Rattle.denton_parts.specs.Years.{indicators_of, benchmarks_of}
 use Rattle.denton_parts.specs.declared.year.YearPart.{YearPart}
 use Rattle.denton_parts.proofs.Reach.{level_within, near_floor, near_one_more, value_within, level_unit_positive}
 use Rattle.denton_solve.specs.Conditions.{AreMultipliers, AreScaled, IsScaled}
-use Rattle.denton_solve.specs.Series.{value_part, value_parts, year_series, series_after, series_of}
+use Rattle.denton_solve.specs.Series.{value_part, value_parts, year_series, series_after, series_of, AreShareOuts}
 use Rattle.denton_solve.specs.Sweeps.{first_of}
 use Rattle.denton_solve.proofs.Benchmarks.{parts_add_up}
 
@@ -81,6 +81,29 @@ series_count k years u = after_count k (pos 0) years u
 pub series_meets : (k : ℕ) (years : List YearPart) (u : List ℤ) → MeetsBenchmarks (benchmarks_of years) (pos 1) (series_of k years u)
 unfolding series_of
 series_meets k years u = after_meets k (pos 0) years u
+
+-- the first four of a list that begins with four, and the rest
+four_taken : (four rest : List ℤ) → length four ≡ 4 → (take 4 (four ++ rest) ≡ four) × (drop 4 (four ++ rest) ≡ rest)
+four_taken (w ∷ x ∷ y ∷ z ∷ []) rest count = (refl, refl)
+four_taken [] rest count = absurd (omega arith)
+four_taken (w ∷ []) rest count = absurd (omega arith)
+four_taken (w ∷ x ∷ []) rest count = absurd (omega arith)
+four_taken (w ∷ x ∷ y ∷ []) rest count = absurd (omega arith)
+four_taken (w ∷ x ∷ y ∷ z ∷ v ∷ more) rest count = absurd (omega arith)
+
+after_shares : (k : ℕ) (before : ℤ) (years : List YearPart) (u : List ℤ) → AreShareOuts k before years u (series_after k before years u)
+after_shares k before [] u = refl
+after_shares k before (year ∷ years) u =
+    let shares = year_shares k year before (first_of u) in
+    let cut = four_taken (year_series k year before (first_of u)) (series_after k (first_of u) years (drop 1 u)) shares.same_length in (
+      subst (λ (xs : List ℤ). IsShareOut (value_parts k year before (first_of u)) (pos (10 ^ k) *ℤ pos (year_sum year.ind)) year.bench xs) (sym cut.0) shares,
+      subst (λ (xs : List ℤ). AreShareOuts k (first_of u) years (drop 1 u) xs) (sym cut.1) (after_shares k (first_of u) years (drop 1 u)),
+    )
+
+-- a series is made of the years' share-outs
+pub series_shares : (k : ℕ) (years : List YearPart) (u : List ℤ) → AreShareOuts k (pos 0) years u (series_of k years u)
+unfolding series_of
+series_shares k years u = after_shares k (pos 0) years u
 
 -- the part of a quarter
 part_at : (k : ℕ) (year : YearPart) (left right : ℤ) (j : ℕ) → j < 4 → get_or (value_parts k year left right) j (pos 0) ≡ value_part k year left right j

@@ -7,7 +7,7 @@ ghost use Rattle.denton_parts.specs.Year.{IsMultiplier};
 ghost use Rattle.denton_parts.specs.Years.{IsInReach, indicators_of, benchmarks_of};
 ghost use Rattle.denton_parts.specs.declared.year.YearPart.{YearPart};
 ghost use Rattle.denton_solve.specs.Conditions.{AreMultipliers, AreScaled, IsScaled};
-ghost use Rattle.denton_solve.specs.Series.{series_of, value_part, year_series};
+ghost use Rattle.denton_solve.specs.Series.{series_of, value_part, year_series, AreShareOuts};
 ghost use Rattle.denton_solve.specs.Sweeps.{first_of};
 
 use crate::sweep::multiplier_at;
@@ -15,8 +15,8 @@ use denton_parts::{YearPart, level, level_unit};
 use sum_rounding::share_four;
 
 /// Writes into `out` the values of the years' quarters in whole currency units, four a year: each year's benchmark shared out in proportion to its
-/// indicators times their levels, between the multipliers `u` that stand between the years. So each year's quarters add up to its benchmark, whatever
-/// the multipliers are. A value is below 10^24 in size, and its ratio to its indicator is within 10^16 in units of 1 over 10^scale.
+/// indicators times their levels, between the multipliers `u` that stand between the years: the floors, and the units that are then left go to the
+/// largest remainders. So each year's quarters add up to its benchmark, whatever the multipliers are. A value is below 10^24 in size, and its ratio to its indicator is within 10^16 in units of 1 over 10^scale.
 pub fn series(parts: &[YearPart], scale: u8, u: &[i128], out: &mut [i128])
     requires some_year { 1 ≤ length parts.now }
     requires most { length parts.now ≤ 128 }
@@ -25,6 +25,7 @@ pub fn series(parts: &[YearPart], scale: u8, u: &[i128], out: &mut [i128])
     requires multipliers { AreMultipliers u.now }
     requires room { length out.old ≡ 4 * length parts.now }
     ensures value { out.new ≡ series_of scale parts.now u.now }
+    ensures shares { AreShareOuts scale (pos 0) parts.now u.now out.new }
     ensures meets { MeetsBenchmarks (benchmarks_of parts.now) (pos 1) out.new }
     ensures sizes { EachIndex out.new (λ t. unsigned_abs (slice_index_or out.new t (pos 0)) < 10 ^ 24) }
     ensures reach { EachIndex out.new (λ t. IsInReach scale (slice_index (indicators_of parts.now) t) (slice_index_or out.new t (pos 0))) }

@@ -1,6 +1,7 @@
 pub mod Items
 pub mod Outcomes
 pub mod Runs
+pub mod Sent
 pub mod Sizes
 pub mod Values
 pub mod Worked

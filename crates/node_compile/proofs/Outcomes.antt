@@ -12,11 +12,11 @@ pub none_there : {X : Type 0} (xs : List X) → length xs ≡ 0 → xs ≡ []
 none_there [] e = refl
 none_there (x ∷ xs) e = absurd (omega arith)
 
--- what follows of two facts of a result, and of four
+-- what follows of two facts of a result, and of five
 pub ok_both : {T E : Type 0} (result : Result T E) (P Q R : T → Type 0) → ((x : T) → P x → Q x → R x) → IfOk result P → IfOk result Q → IfOk result R
 ok_both (Ok x) P Q R gives p q = gives x p q
 ok_both (Err e) P Q R gives p q = tt
 
-pub ok_four : {T E : Type 0} (result : Result T E) (P Q R S U : T → Type 0) → ((x : T) → P x → Q x → R x → S x → U x) → IfOk result P → IfOk result Q → IfOk result R → IfOk result S → IfOk result U
-ok_four (Ok x) P Q R S U gives p q r s = gives x p q r s
-ok_four (Err e) P Q R S U gives p q r s = tt
+pub ok_five : {T E : Type 0} (result : Result T E) (O P Q R S U : T → Type 0) → ((x : T) → O x → P x → Q x → R x → S x → U x) → IfOk result O → IfOk result P → IfOk result Q → IfOk result R → IfOk result S → IfOk result U
+ok_five (Ok x) O P Q R S U gives o p q r s = gives x o p q r s
+ok_five (Err e) O P Q R S U gives o p q r s = tt

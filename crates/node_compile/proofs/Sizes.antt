@@ -1,5 +1,5 @@
 -- The sizes of a leaf's cells: what its volumes and its chain ask for.
-use Rattle.std.specs.Prelude.{◌≡◌, ℕ, ◌*◌, ◌/◌, ◌^◌, ◌≤◌, ◌<◌, ℤ, pos, ◌*ℤ◌, int_le, Bool, true, false, ◌&&◌, if◌then◌else◌, List, [], ◌∷◌, map, length, slice_index, unsigned_abs, All, Option, Some, None, IfSome}
+use Rattle.std.specs.Prelude.{◌≡◌, ℕ, ◌-◌, ◌++◌, ◌*◌, ◌/◌, ◌^◌, ◌≤◌, ◌<◌, ℤ, pos, ◌*ℤ◌, int_le, Bool, true, false, ◌&&◌, if◌then◌else◌, List, [], ◌∷◌, map, length, slice_index, unsigned_abs, All, EachIndex, Option, Some, None, IfSome}
 use Rattle.std.specs.List.{range_with_len}
 use Rattle.std.proofs.Common.{refl, arith, sym, subst, get_or, zero, suc}
 use Rattle.std.proofs.Math.Nat.{mul-div-le, mul-le-mul_right, pow-le-pow_right}
@@ -15,29 +15,21 @@ use Rattle.ratio_arith.specs.Division.{round_of}
 use Rattle.series_tables.specs.Ranges.{IsPositiveOrNone}
 use Rattle.node_compile.specs.Leaf.{missing}
 
--- at a scale of 10 or more a value in a certificate's range is within 10^24
-value_within : (k i : ℕ) (value : ℤ) → 1 ≤ k → i ≤ 10 ^ 9 → IsQuarterValue k i value → unsigned_abs value ≤ 10 ^ 24
-value_within k i value some few within =
-    let unit : 10 ^ 1 ≤ 10 ^ k = pow-le-pow_right (omega arith) some in
-    let less : 10 ^ 1 * (10 ^ 16 * i / 10 ^ k) ≤ 10 ^ k * (10 ^ 16 * i / 10 ^ k) = mul-le-mul_right (10 ^ 16 * i / 10 ^ k) unit in
-    let most : 10 ^ k * (10 ^ 16 * i / 10 ^ k) ≤ 10 ^ 16 * i = mul-div-le (10 ^ 16 * i) (10 ^ k) in
-    omega arith
-
--- so are all values of a run
-pub values_within : (k : ℕ) (indicators : List ℕ) (values : List ℤ) → 1 ≤ k → AreQuarters k indicators values → All (λ value. unsigned_abs value ≤ 10 ^ 24) values
-values_within k indicators values some quarters t d inside =
-    let below : t < length indicators = subst (λ (n : ℕ). t < n) quarters.same_length inside in
-    let indicator = quarters.each_indicator t below in
-    value_at values t d inside (value_within k (slice_index indicators t) (get_or values t (pos 0)) some indicator.1 (quarters.each_value t below))
+-- the values of a year, and those carried past the last, are below 10^24 in size
+pub values_below : (xs ys : List ℤ) → EachIndex xs (λ t. unsigned_abs (get_or xs t (pos 0)) < 10 ^ 24) → EachIndex ys (λ t. unsigned_abs (get_or ys t (pos 0)) < 10 ^ 24) →
+    All (λ value. unsigned_abs value < 10 ^ 24) (xs ++ ys)
+values_below [] ys one two t d inside = value_at ys t d inside (two t inside)
   where
-    value_at : (values : List ℤ) (t : ℕ) (d : ℤ) → t < length values → unsigned_abs (get_or values t (pos 0)) ≤ 10 ^ 24 → unsigned_abs (get_or values t d) ≤ 10 ^ 24
+    value_at : (values : List ℤ) (t : ℕ) (d : ℤ) → t < length values → unsigned_abs (get_or values t (pos 0)) < 10 ^ 24 → unsigned_abs (get_or values t d) < 10 ^ 24
     value_at [] t d inside h = absurd (omega arith)
     value_at (value ∷ values) zero d inside h = h
     value_at (value ∷ values) (suc t) d inside h = value_at values t d (omega arith) h
+values_below (x ∷ xs) ys one two zero d inside = one 0 (omega arith)
+values_below (x ∷ xs) ys one two (suc t) d inside = values_below xs ys (λ k below. one (suc k) (omega arith)) two t d (omega arith)
 
 -- and so are they as cells
-pub values_sized : (values : List ℤ) (cells : List Cell) → cells ≡ map Value values → All (λ value. unsigned_abs value ≤ 10 ^ 24) values → All (IsSizedCell (10 ^ 24)) cells
-values_sized values cells e each = subst (λ (cells : List Cell). All (IsSizedCell (10 ^ 24)) cells) (sym e) (All-map (IsSizedCell (10 ^ 24)) Value values each)
+pub values_sized : (values : List ℤ) (cells : List Cell) → cells ≡ map Value values → All (λ value. unsigned_abs value < 10 ^ 24) values → All (IsSizedCell (10 ^ 24 - 1)) cells
+values_sized values cells e each = subst (λ (cells : List Cell). All (IsSizedCell (10 ^ 24 - 1)) cells) (sym e) (All-map (IsSizedCell (10 ^ 24 - 1)) Value values (λ t d inside. let below = each t d inside in omega arith))
 
 -- what is within a size is within a larger one
 wider_cell : (size larger : ℕ) → size ≤ larger → (cell : Cell) → IsSizedCell size cell → IsSizedCell larger cell

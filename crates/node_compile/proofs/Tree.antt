@@ -11,6 +11,7 @@ use Rattle.std.proofs.lemmas.List.FromFn.{get_or-map-range_with_len, get_or-rang
 use Rattle.std.proofs.Math.Seq.{take-length, take-suc}
 use Rattle.aggregate_tree.proofs.Adding.{leaf_alone}
 use Rattle.aggregate_tree.proofs.Combining.{amount_of}
+use Rattle.aggregate_tree.proofs.Kept.{cells_few}
 use Rattle.aggregate_tree.proofs.Places.{sum_more, length-with_cells}
 use Rattle.aggregate_tree.proofs.Sizes.{sums_grow}
 use Rattle.aggregate_tree.specs.Leaves.{added, all_leaves, HasLeaf}
@@ -186,15 +187,26 @@ value_sums_fit item first parents lists tallies before few sum t = omega (arith,
 pub volume_sums_fit : (item first : ℕ) (parents : List (Option ℕ)) (lists : List (List Cell)) (tallies : List Tally) → item < first → length parents ≤ 512 → IsSumBehind (10 ^ 15) item first parents lists tallies → AreVolumeSums tallies
 volume_sums_fit item first parents lists tallies before few sum t = omega (arith, sum.sizes t, children_few item first parents before, few)
 
--- the same over the tables behind, of which this one stands at the turn's place
+-- the cells of a table behind
+cells_here : {X : Type 0} (f : X → List Cell) (place : ℕ) (behind : List X) (node : X) → place < length behind → node ≡ get_or behind place node → f node ≡ get_or (map f behind) place []
+cells_here f place behind node within here = ap f here ∙ sym (get_or-map f behind place node [] within)
+
+-- there are at most 256 of them
+pub node_few : {X : Type 0} (f : X → List Cell) (most place : ℕ) (plan : PlanShape) (behind : List X) (node : X) → place < length behind → node ≡ get_or behind place node
+    → ((k : ℕ) → k < length behind → AreItemCells most (length (leaves_under plan (length plan.names - 1 - k))) (get_or (map f behind) k []))
+    → length (f node) ≤ 256
+node_few f most place plan behind node within here known = subst (λ (l : List Cell). length l ≤ 256) (sym (cells_here f place behind node within here)) (known place within).few
+
+-- a turn over the tables behind, of which this one stands at the turn's place
 pub node_turn : {X : Type 0} (f : X → List Cell) (most item place : ℕ) (plan : PlanShape) (behind : List X) (node : X) (tallies : List Tally) → length plan.parents ≡ length plan.names → suc item + length behind ≡ length plan.names
-    → place < length behind → node ≡ get_or behind place node → length (f node) ≤ 256
+    → place < length behind → node ≡ get_or behind place node
     → ((k : ℕ) → k < length behind → AreItemCells most (length (leaves_under plan (length plan.names - 1 - k))) (get_or (map f behind) k []))
     → IsSumBehind most item (length plan.names - place) (drop (length plan.names - place) plan.parents) (reverse (take place (map f behind))) tallies
     → is_parent item (get_or plan.parents (length plan.names - 1 - place) None) ≡ true
     → IsSumBehind most item (length plan.names - (place + 1)) (drop (length plan.names - (place + 1)) plan.parents) (reverse (take (place + 1) (map f behind))) (with_cells (f node) tallies)
-node_turn f most item place plan behind node tallies count whole within here short known before mine =
-    let here_cells : f node ≡ get_or (map f behind) place [] = ap f here ∙ sym (get_or-map f behind place node [] within) in
+node_turn f most item place plan behind node tallies count whole within here known before mine =
+    let here_cells : f node ≡ get_or (map f behind) place [] = cells_here f place behind node within here in
+    let short = node_few f most place plan behind node within here known in
     child_turn most item (length plan.names - place) (length plan.names - (place + 1)) (place + 1) place (length plan.names - 1 - place) plan (map f behind) (f node) tallies
     (omega arith) (omega arith) (omega arith) (omega arith) (omega (arith, length-map behind f)) here_cells short (known place within) before mine
 
@@ -231,7 +243,7 @@ volume_turn_fits f item place plan behind tallies few whole within sum =
 pub sum_is_known : (most item : ℕ) (plan : PlanShape) (lists : List (List Cell)) (tallies : List Tally) → item < length plan.parents → list_any (is_parent item) (drop (suc item) plan.parents) ≡ true → All IsFlow (cells_of tallies)
     → IsSumBehind most item (suc item) (drop (suc item) plan.parents) lists tallies → AreItemCells most (length (leaves_under plan item)) (cells_of tallies)
 sum_is_known most item plan lists tallies inside inner flows sum =
-    record { flows = flows; sizes = λ t. subst (λ (n : ℕ). IsSizedCell (most * n) (cell_at (cells_of tallies) t)) (sym (ap length (leaves_of_inner plan item inside inner))) (sum_sized (most * number_of (of_children item (drop (suc item) plan.parents) (leaves_from (suc item) (drop (suc item) plan.parents)))) tallies sum.sizes t) }
+    record { few = omega (arith, cells_few tallies, sum.room); flows = flows; sizes = λ t. subst (λ (n : ℕ). IsSizedCell (most * n) (cell_at (cells_of tallies) t)) (sym (ap length (leaves_of_inner plan item inside inner))) (sum_sized (most * number_of (of_children item (drop (suc item) plan.parents) (leaves_from (suc item) (drop (suc item) plan.parents)))) tallies sum.sizes t) }
 
 -- a table behind is that of its item
 item_behind : (value_at : Kind → ℕ → ℕ → Option ℤ) (plan : PlanShape) (first : ℕ) (tables : List Table) (k : ℕ) (d : Table) → AreLastItems value_at plan first tables → k < length tables → get_or tables k d ≡ item_table value_at plan (length plan.names - 1 - k)

@@ -1,7 +1,7 @@
 -- Why a leaf's values meet the benchmarks and are within the gap of its table.
-use Rattle.std.specs.Prelude.{◌≡◌, ℕ, ◌*◌, ◌^◌, ◌/◌, ◌≤◌, ℤ, pos, List, [], ◌∷◌, ◌++◌, map, length, drop, slice_index, EachIndex, All, Option, Some, None}
+use Rattle.std.specs.Prelude.{◌≡◌, ℕ, ◌+◌, ◌-◌, ◌*◌, ◌^◌, ◌/◌, ◌≤◌, ℤ, pos, List, [], ◌∷◌, ◌++◌, map, length, drop, slice_index, EachIndex, All, Option, Some, None}
 use Rattle.std.proofs.Common.{refl, sym, ◌∙◌, ap, arith, get_or, subst, length-append, length-drop}
-use Rattle.std.proofs.lemmas.List.{length-map}
+use Rattle.std.proofs.lemmas.List.{length-map, get_or_default}
 use Rattle.denton_parts.specs.Benchmarks.{MeetsBenchmarks}
 use Rattle.denton_parts.specs.Changes.{changes}
 use Rattle.denton_parts.specs.Gap.{gap_by}
@@ -36,7 +36,7 @@ meets_before (benchmark ∷ later) n (a ∷ b ∷ []) ys meets = absurd meets
 meets_before (benchmark ∷ later) n (a ∷ b ∷ c ∷ []) ys meets = absurd meets
 
 -- the values of a run meet the benchmarks
-run_meets : (k : ℕ) (years : List YearPart) (u : List ℤ) (indicators : List ℕ) → MeetsBenchmarks (benchmarks_of years) (pos 1) (run_values k years u indicators)
+pub run_meets : (k : ℕ) (years : List YearPart) (u : List ℤ) (indicators : List ℕ) → MeetsBenchmarks (benchmarks_of years) (pos 1) (run_values k years u indicators)
 run_meets k [] u indicators = tt
 run_meets k (year ∷ years) u indicators = meets_before (benchmarks_of (year ∷ years)) (pos 1) (series_of k (year ∷ years) u) (carried_of k (get_or (year ∷ years) (length years) year) (get_or (pos 0 ∷ u) (length years) (pos 0)) (drop (4 * length (year ∷ years)) indicators)) (series_meets k (year ∷ years) u)
 
@@ -46,12 +46,27 @@ unfolding carried_of
 carried_count k last left indicators = length-map indicators (carried k last left)
 
 -- a run has a value for each indicator
-run_values_count : (k : ℕ) (year : YearPart) (years : List YearPart) (u : List ℤ) (indicators : List ℕ) → 4 * length (year ∷ years) ≤ length indicators → length (run_values k (year ∷ years) u indicators) ≡ length indicators
+pub run_values_count : (k : ℕ) (year : YearPart) (years : List YearPart) (u : List ℤ) (indicators : List ℕ) → 4 * length (year ∷ years) ≤ length indicators → length (run_values k (year ∷ years) u indicators) ≡ length indicators
 run_values_count k year years u indicators room =
     let later : List ℤ = carried_of k (get_or (year ∷ years) (length years) year) (get_or (pos 0 ∷ u) (length years) (pos 0)) (drop (4 * length (year ∷ years)) indicators) in
     let first = series_count k (year ∷ years) u in
     let second : length later ≡ length (drop (4 * length (year ∷ years)) indicators) = carried_count k (get_or (year ∷ years) (length years) year) (get_or (pos 0 ∷ u) (length years) (pos 0)) (drop (4 * length (year ∷ years)) indicators) in
     omega (arith, length-append (series_of k (year ∷ years) u) later, length-drop (4 * length (year ∷ years)) indicators)
+
+-- the values of a run, put together from the series and what is carried past it
+pub run_values_are : (k : ℕ) (years : List YearPart) (u : List ℤ) (indicators rest : List ℕ) (last : YearPart) (left : ℤ) (xs ys : List ℤ) → 1 ≤ length years → length u + 1 ≡ length years →
+    last ≡ get_or years (length years - 1) last → left ≡ get_or (pos 0 ∷ u) (length u) (pos 0) → rest ≡ drop (4 * length years) indicators →
+    xs ≡ series_of k years u → ys ≡ carried_of k last left rest → xs ++ ys ≡ run_values k years u indicators
+run_values_are k [] u indicators rest last left xs ys some joints e_last e_left e_rest e_xs e_ys = absurd (omega arith)
+run_values_are k (year ∷ years) u indicators rest last left xs ys some joints e_last e_left e_rest e_xs e_ys =
+    let place : length (year ∷ years) - 1 ≡ length years = omega arith in
+    let same : length u ≡ length years = omega arith in
+    let here : last ≡ get_or (year ∷ years) (length years) year = e_last ∙ ap (λ n. get_or (year ∷ years) n last) place ∙ get_or_default (year ∷ years) (length years) last year (omega arith) in
+    let before : left ≡ get_or (pos 0 ∷ u) (length years) (pos 0) = e_left ∙ ap (λ n. get_or (pos 0 ∷ u) n (pos 0)) same in
+    let carried_on : ys ≡ carried_of k (get_or (year ∷ years) (length years) year) (get_or (pos 0 ∷ u) (length years) (pos 0)) (drop (4 * length (year ∷ years)) indicators) =
+    e_ys ∙ ap (λ (y : YearPart). carried_of k y left rest) here ∙ ap (λ (z : ℤ). carried_of k (get_or (year ∷ years) (length years) year) z rest) before
+    ∙ ap (λ (is : List ℕ). carried_of k (get_or (year ∷ years) (length years) year) (get_or (pos 0 ∷ u) (length years) (pos 0)) is) e_rest in
+    ap (λ (l : List ℤ). l ++ ys) e_xs ∙ ap (λ (l : List ℤ). series_of k (year ∷ years) u ++ l) carried_on
 
 -- numbers as cells are the numbers
 numbers_kept : (xs : List ℤ) → numbers_in (map Value xs) ≡ xs

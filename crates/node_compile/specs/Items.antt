@@ -23,8 +23,9 @@ node_value node = (arc_value node).flows.value
 abbrev pub node_prev : {Z : Type 0} → Arc NodeTable Z → List Cell
 node_prev node = (arc_value node).flows.prev
 
--- what the cells of an item are: no mark of a link among them, and each within so much a leaf
+-- what the cells of an item of a plan are: at most those of 64 years, no mark of a link among them, and each within so much a leaf
 pub record AreItemCells (most leaves : ℕ) (cells : List Cell) : Type 0 where
+  pub few : length cells ≤ 256
   pub flows : All IsFlow cells
   pub sizes : (t : ℕ) → IsSizedCell (most * leaves) (cell_at cells t)
 

@@ -1,21 +1,17 @@
 -- What an item's table is worth. In the words of the manual's chapter 6: a leaf's values meet the benchmarks, and no other series that meets them is better by
 -- more than the gap. In those of its chapter 8: chained volumes are the products of the links, up to a printed drift, and add up over the year.
-use Rattle.std.specs.Prelude.{ℕ, ◌^◌, ℤ, pos, List, map, IfSome}
+use Rattle.std.specs.Prelude.{ℕ, ◌^◌, ℤ, pos, List, map, IfSome, unwrap_or}
 use Rattle.denton_parts.specs.Benchmarks.{MeetsBenchmarks}
 use Rattle.denton_parts.specs.Ratios.{IsWithinGap}
 use Rattle.price_base.specs.declared.Cell.{Cell}
-use Rattle.price_base.specs.declared.Cell.TheVariants.{Missing, Value, NoBase, NoLink, Range}
+use Rattle.price_base.specs.Cells.{number_of}
 use Rattle.annual_overlap.specs.Drift.{AreWithinDrift}
 use Rattle.annual_overlap.specs.Table.{DoQuartersAddUp}
 use Rattle.node_compile.specs.Table.{Table}
 
 -- the number in a cell. A mark has none, and 0 stands for it; a leaf with a certificate has no mark among its values
 abbrev pub number_in : Cell → ℤ
-number_in (Value number) = number
-number_in Missing = pos 0
-number_in NoBase = pos 0
-number_in NoLink = pos 0
-number_in Range = pos 0
+number_in cell = unwrap_or (number_of cell) (pos 0)
 
 -- the numbers in cells
 abbrev pub numbers_in : List Cell → List ℤ

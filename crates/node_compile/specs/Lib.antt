@@ -2,5 +2,6 @@ pub mod Items
 pub mod Laws
 pub mod Leaf
 pub mod Release
+pub mod Sent
 pub mod Shape
 pub mod Table

@@ -21,7 +21,7 @@ pub(crate) fn chained(
     flows: NodeFlows,
     reference: Year,
 ) -> Result<NodeTable, Memory>
-    requires few { length flows.value ≤ 256 }
+    requires few { length flows.value ≤ 512 }
     requires values { All (IsSizedCell (10 ^ 27)) flows.value }
     requires volumes { All (IsSizedCell (512 * 10 ^ 15)) flows.prev }
     requires benchmarked { ForSome leaf (λ part. IsBenchmarked part.ind.items part.bench.items part.cert.u.items flows.value) }

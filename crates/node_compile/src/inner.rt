@@ -1,6 +1,6 @@
 //! The table of one inner item.
 
-ghost use Rattle.std.specs.Prelude.{◌≡◌, ◌≤◌, List, None, map, length, IfOk};
+ghost use Rattle.std.specs.Prelude.{◌≡◌, List, None, map, IfOk};
 ghost use Rattle.std.specs.List.{All};
 ghost use Rattle.aggregate_tree.specs.Leaves.{added, all_leaves, HasLeaf};
 ghost use Rattle.aggregate_tree.specs.Tallies.{IsSumOf, cells_of};
@@ -16,13 +16,16 @@ use period_keys::Year;
 use qna_base::Memory;
 use std::alloc::Global;
 
-/// The table of an inner item, from the sum of its children, which has room for at most 256 quarters: the cells of the sum, and their chain from
-/// `reference`, which is counted from the first year. Where the sum is that of children each of which is the sum over the leaves under it, the table is the
+/// The table of an inner item, from the sum of its children: the cells of the sum, and their chain from `reference`, which is counted from the first year. Where the sum is that of children each of which is the sum over the leaves under it, the table is the
 /// one over all these leaves. Chained volumes aren't added up: the chain is that of the item's own values and volumes.
 pub fn compile_inner(alloc: Global, sum: &FlowSum, reference: Year) -> Result<NodeTable, Memory>
-    requires quarters { length sum.now.value ≤ 256 }
-    ensures table { IfOk result (λ table. table_in table ≡ chained_table None (cells_of sum.now.value) (cells_of sum.now.prev) reference.0) }
-    ensures leaves { (values volumes : List (List (List CellOf))) → All HasLeaf values → All HasLeaf volumes → IsSumOf (map added values) sum.now.value → IsSumOf (map added volumes) sum.now.prev → IfOk result (λ table. table_in table ≡ inner_table (all_leaves values) (all_leaves volumes) reference.0) }
+    ensures table { IfOk result (λ table. table_in table ≡
+        chained_table None (cells_of sum.now.value) (cells_of sum.now.prev) reference.0) }
+    ensures leaves { (values volumes : List (List (List CellOf))) →
+        All HasLeaf values → All HasLeaf volumes →
+        IsSumOf (map added values) sum.now.value → IsSumOf (map added volumes) sum.now.prev →
+        IfOk result (λ table. table_in table ≡
+            inner_table (all_leaves values) (all_leaves volumes) reference.0) }
 {
     let flows = sum.flows()?;
     chained(alloc, None, flows, reference)

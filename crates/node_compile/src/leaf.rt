@@ -34,17 +34,21 @@ use std::sync::ledger::Ledger;
 /// The table of a leaf. Its benchmarked years are those before the first year without a benchmark; their values are the benchmarked series, and the
 /// quarters past them carry its last ratio forward. Without a benchmarked year all values are missing. The volumes are those of the values at the
 /// average price of the year before, and the chain starts in `reference`, which is counted from the first year of the run. The values meet the
-/// benchmarks, and no series that meets them is better by more than the table's gap. Values are within 10^24, volumes within 10^15. A step is one joint of one sweep of the solver.
+/// benchmarks, and no series that meets them is better by more than the table's gap. Values are below 10^24 in size, volumes within 10^15. A step is one
+/// joint of one sweep of the solver.
 pub fn compile_leaf<L: Ledger>(
     alloc: Global,
     input: &LeafInput,
     reference: Year,
     steps: &mut Steps<L>,
 ) -> Result<NodeTable, Memory>
-    ensures table { IfOk result (λ table. table_in table ≡ leaf_table input.now.ind.items input.now.price.items input.now.bench.items reference.0) }
+    ensures table { IfOk result (λ table. table_in table ≡
+        leaf_table input.now.ind.items input.now.price.items input.now.bench.items reference.0) }
+    ensures quarters { IfOk result (λ table.
+        length table.flows.value ≡ length input.now.ind.items) }
     ensures meets { IfOk result (λ table. MeetsItsBenchmarks (table_in table)) }
     ensures within { IfOk result (λ table. IsWithinItsGap (table_in table)) }
-    ensures value_sizes { IfOk result (λ table. All (IsSizedCell (10 ^ 24)) table.flows.value) }
+    ensures value_sizes { IfOk result (λ table. All (IsSizedCell (10 ^ 24 - 1)) table.flows.value) }
     ensures volume_sizes { IfOk result (λ table. All (IsSizedCell (10 ^ 15)) table.flows.prev) }
     ensures steps { steps.new ≤ steps.old + 192 * (length (benchmark_run input.now.bench.items) - 1) }
 {
@@ -77,7 +81,8 @@ fn benchmarks_of(alloc: Global, bench: &[Option<i64>]) -> Result<Vec<i64>, Memor
 fn missing_table(alloc: Global, quarters: usize, reference: Year) -> Result<NodeTable, Memory>
     requires { quarters ≤ 256 }
     ensures table { IfOk result (λ table. table_in table ≡ missing_table_of quarters reference.0) }
-    ensures value_sizes { IfOk result (λ table. All (IsSizedCell (10 ^ 24)) table.flows.value) }
+    ensures quarters { IfOk result (λ table. length table.flows.value ≡ quarters) }
+    ensures value_sizes { IfOk result (λ table. All (IsSizedCell (10 ^ 24 - 1)) table.flows.value) }
     ensures volume_sizes { IfOk result (λ table. All (IsSizedCell (10 ^ 15)) table.flows.prev) }
 {
     let value = vec![in alloc; Cell::Missing; quarters]?;
@@ -102,8 +107,10 @@ fn benchmarked_table<L: Ledger>(
     requires benchmarks { EachIndex bench.items (λ year. IsBenchmark (slice_index_or bench.items year (pos 0))) }
     requires as_many_prices { length prices.now ≡ length ind.items }
     requires prices { All IsPositiveOrNone prices.now }
-    ensures table { IfOk result (λ table. table_in table ≡ table_of_years ind.items prices.now bench.items reference.0 (years_of ind.items bench.items)) }
-    ensures value_sizes { IfOk result (λ table. All (IsSizedCell (10 ^ 24)) table.flows.value) }
+    ensures table { IfOk result (λ table. table_in table ≡
+        table_of_years ind.items prices.now bench.items reference.0 (years_of ind.items bench.items)) }
+    ensures quarters { IfOk result (λ table. length table.flows.value ≡ length ind.items) }
+    ensures value_sizes { IfOk result (λ table. All (IsSizedCell (10 ^ 24 - 1)) table.flows.value) }
     ensures volume_sizes { IfOk result (λ table. All (IsSizedCell (10 ^ 15)) table.flows.prev) }
     ensures steps { steps.new ≤ steps.old + 192 * (length bench.items - 1) }
 {
@@ -191,7 +198,7 @@ fn values_of(
     requires years { indicators_of parts.now ++ drop (4 * length parts.now) ind.now ≡ ind.now }
     ensures values { IfOk result (λ values. values.items ≡ run_values scale parts.now u.now ind.now) }
     ensures quarters { IfOk result (λ values. AreQuarters scale ind.now values.items) }
-    ensures sizes { IfOk result (λ values. All (λ value. unsigned_abs value ≤ 10 ^ 24) values.items) }
+    ensures sizes { IfOk result (λ values. All (λ value. unsigned_abs value < 10 ^ 24) values.items) }
 {
     let mut values = vec![in alloc; 0; ind.len()]?;
     write_values(parts, scale, u, ind, &mut values);
@@ -212,7 +219,7 @@ fn write_values(parts: &[YearPart], scale: u8, u: &[i128], ind: &[u32], out: &mu
     requires room { length out.old ≡ length ind.now }
     ensures values { out.new ≡ run_values scale parts.now u.now ind.now }
     ensures quarters { AreQuarters scale ind.now out.new }
-    ensures sizes { All (λ value. unsigned_abs value ≤ 10 ^ 24) out.new }
+    ensures sizes { All (λ value. unsigned_abs value < 10 ^ 24) out.new }
 {
     let years = parts.len();
     let (_, later) = ind.split_at(4 * years);
@@ -237,7 +244,7 @@ fn multiplier_before_last(u: &[i128]) -> i128
 // Values as an item's flows, with their volumes at these prices.
 fn flows_of(alloc: Global, values: &[i128], prices: &[Option<u32>]) -> Result<NodeFlows, Memory>
     requires few { length values.now ≤ 256 }
-    requires sizes { All (λ value. unsigned_abs value ≤ 10 ^ 24) values.now }
+    requires sizes { All (λ value. unsigned_abs value < 10 ^ 24) values.now }
     requires as_many_prices { length prices.now ≡ length values.now }
     requires prices { All IsPositiveOrNone prices.now }
     ensures value { IfOk result (λ flows. flows.value ≡ map Value values.now) }

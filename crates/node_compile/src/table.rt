@@ -19,7 +19,7 @@ pub struct LeafPart {
     pub cert: Cert,
 }
 
-/// An item's table: its figures quarter by quarter, of at most 256 quarters, their chain, and what stands behind a leaf's values.
+/// An item's table: its figures quarter by quarter, of at most 512 quarters, their chain, and what stands behind a leaf's values.
 #[derive(Debug, Drop)]
 pub struct NodeTable {
     /// none for an inner item, and for a leaf without a benchmarked year, all of whose values are then missing
@@ -28,7 +28,7 @@ pub struct NodeTable {
     pub flows: NodeFlows,
     /// the chain of these values and volumes: the figures of the years that have a quarter, and the chained volumes of years and quarters
     pub chain: ChainTable,
-    pub ghost few: { length flows.value ≤ 256 },
+    pub ghost few: { length flows.value ≤ 512 },
     pub ghost shaped: { IsChainShaped chain (length flows.value) },
     pub ghost benchmarked: { ForSome leaf (λ part. IsBenchmarked part.ind.items part.bench.items part.cert.u.items flows.value) },
 }

@@ -1,5 +1,5 @@
 -- Cells: figures or marks, and what a sum of cells is.
-use Rattle.std.specs.Prelude.{◌≢◌, ℕ, ℤ, pos, ◌+ℤ◌, Bool, true, false, if◌then◌else◌, List, [], ◌∷◌, slice_index_or}
+use Rattle.std.specs.Prelude.{◌≢◌, ℕ, ℤ, pos, ◌+ℤ◌, Bool, true, false, if◌then◌else◌, List, [], ◌∷◌, slice_index_or, Option, Some, None}
 use Rattle.std.specs.List.{list_any}
 use Rattle.price_base.specs.declared.Cell.{Cell}
 use Rattle.price_base.specs.declared.Cell.TheVariants.{Missing, Value, NoBase, NoLink, Range}
@@ -24,6 +24,11 @@ is_no_base _ = false
 abbrev pub is_range : Cell → Bool
 is_range Range = true
 is_range _ = false
+
+-- the number in a cell; a mark has none
+abbrev pub number_of : Cell → Option ℤ
+number_of (Value number) = Some number
+number_of _ = None
 
 -- the sum of the values among cells
 abbrev pub total : List Cell → ℤ

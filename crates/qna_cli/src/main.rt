@@ -1,6 +1,10 @@
 //! The compiler of quarterly national accounts: words in, an exit status out.
 #![tactic(auto)]
 
+ghost use Rattle.std.specs.Prelude.{◌≡◌};
+ghost use Rattle.std.specs.Process.{exit_status};
+ghost use Rattle.qna_edges.specs.Status.{number_of};
+
 mod batch;
 mod check;
 mod command;
@@ -10,14 +14,30 @@ pub use check::run_check;
 pub use command::{releases_are_certified, run, run_batch};
 use qna_base::Memory;
 use qna_edges::{FileCabinet, OpenGate, Status, StdoutSink};
+use qna_parts::{Unread, tell_unread, tell_usage};
 use std::alloc::Global;
 use std::process::ExitCode;
-use std::{env, io};
+use std::rt::Files;
+use std::{env, fs, io};
 
 #[cfg(test)]
 mod check_tests;
 #[cfg(test)]
 mod tests;
+
+/// A file for reading that is always there and empty.
+const NOTHING: &str = "/dev/null";
+
+/// Takes the numbers of the three standard descriptors where they are closed. A file that is opened gets the lowest number that is free. So where a program is started
+/// with its standard output closed, its first output file would become its standard output, and the report would be written into it. While these
+/// three are held, a write to a closed standard output fails.
+fn hold_standard_descriptors<R: Files>(rt: &R) -> io::Result<[R::File; 3]> {
+    Ok([
+        fs::open(rt, NOTHING)?,
+        fs::open(rt, NOTHING)?,
+        fs::open(rt, NOTHING)?,
+    ])
+}
 
 /// The words without the program's name, borrowed.
 fn words_of(alloc: Global, texts: &[String]) -> Result<Vec<&str>, Memory> {
@@ -28,32 +48,41 @@ fn words_of(alloc: Global, texts: &[String]) -> Result<Vec<&str>, Memory> {
     Ok(words)
 }
 
-/// The status where the words can't be had as text: want of memory, or a word that isn't UTF-8.
-fn words_status(error: &io::Error) -> Status {
-    match error.kind() {
-        io::ErrorKind::OutOfMemory => Status::Memory,
-        _ => Status::Usage,
+/// The texts of the command line, the program's name first. The answer is a status where they can't be had: for want of memory, or at a word that isn't
+/// UTF-8, which is of no command's form and is reported so.
+fn texts_of(rt: &HostRuntime, report: &mut StdoutSink) -> Result<Vec<String>, Status> {
+    match env::args(rt) {
+        Ok(arguments) => arguments.collect(rt.alloc()).map_err(|_| Status::Memory),
+        Err(error) => match error.kind() {
+            io::ErrorKind::OutOfMemory => Err(Status::Memory),
+            _ => Err(tell_usage(report)),
+        },
     }
+}
+
+/// The exit code with a status's number.
+fn exit_code(status: Status) -> ExitCode
+    ensures { exit_status result ≡ number_of status }
+{
+    ExitCode::from(status.number())
 }
 
 fn main(rt: HostRuntime) -> ExitCode {
     let alloc = rt.alloc();
-    let arguments = match env::args(&rt) {
-        Ok(arguments) => arguments,
-        Err(error) => return ExitCode::from(words_status(&error).number()),
+    let mut report = StdoutSink::new(rt.stdout());
+    let Ok(_held) = hold_standard_descriptors(&rt) else {
+        return exit_code(tell_unread(&mut report, Unread::Open, NOTHING));
     };
-    let texts: Vec<String> = match arguments.collect(alloc) {
+    let texts = match texts_of(&rt, &mut report) {
         Ok(texts) => texts,
-        Err(_) => return ExitCode::from(Status::Memory.number()),
+        Err(status) => return exit_code(status),
     };
     let Ok(words) = words_of(alloc, &texts) else {
-        return ExitCode::from(Status::Memory.number());
+        return exit_code(Status::Memory);
     };
     let Ok(files) = rt.clone() else {
-        return ExitCode::from(Status::Memory.number());
+        return exit_code(Status::Memory);
     };
-    let mut report = StdoutSink::new(rt.stdout());
     let mut cabinet = FileCabinet::new(files, alloc);
-    let status = run(&rt, alloc, &words, &mut cabinet, &mut report, &OpenGate);
-    ExitCode::from(status.number())
+    exit_code(run(&rt, alloc, &words, &mut cabinet, &mut report, &OpenGate))
 }

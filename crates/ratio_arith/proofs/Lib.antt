@@ -1,3 +1,4 @@
+pub mod Clamps
 pub mod Floors
 pub mod Linear
 pub mod Near

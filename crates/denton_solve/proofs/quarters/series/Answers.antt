@@ -9,9 +9,9 @@ use Rattle.denton_parts.specs.declared.year.YearPart.{YearPart}
 use Rattle.denton_parts.proofs.Reach.{value_small}
 use Rattle.denton_parts.proofs.Scales.{scale_least}
 use Rattle.denton_solve.specs.Conditions.{IsScaled}
-use Rattle.denton_solve.specs.Series.{series_of, year_series}
+use Rattle.denton_solve.specs.Series.{series_of, year_series, AreShareOuts}
 use Rattle.denton_solve.proofs.Scaled.{scaled, greatest_most}
-use Rattle.denton_solve.proofs.Values.{written_none, written_more, written_all, series_meets, series_within, indicators_most}
+use Rattle.denton_solve.proofs.Values.{written_none, written_more, written_all, series_shares, series_meets, series_within, indicators_most}
 use Rattle.denton_solve.proofs.quarters.series.Goals as goal
 
 pub loop-y-init : goal.loop-y-init
@@ -41,6 +41,9 @@ loop-y-preserved c =
 -- the values are the series
 done : (c : goal.After-loop-y) → c.loop-y.out ≡ series_of c.args.scale c.args.parts.now c.args.u.now
 done c = written_all c.args.scale _ c.args.parts.now c.args.u.now c.loop-y.out (series_of c.args.scale c.args.parts.now c.args.u.now) c.loop-y.y (omega arith) (omega arith) c.loop-y.invariant.written
+
+pub returns-clause-shares : goal.returns-clause-shares
+returns-clause-shares c = subst (λ (xs : List ℤ). AreShareOuts c.args.scale (pos 0) c.args.parts.now c.args.u.now xs) (sym (done c)) (series_shares c.args.scale c.args.parts.now c.args.u.now)
 
 pub returns-clause-meets : goal.returns-clause-meets
 returns-clause-meets c = subst (λ (xs : List ℤ). MeetsBenchmarks (benchmarks_of c.args.parts.now) (pos 1) xs) (sym (done c)) (series_meets c.args.scale c.args.parts.now c.args.u.now)

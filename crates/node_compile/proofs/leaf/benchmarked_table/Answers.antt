@@ -1,4 +1,4 @@
-use Rattle.std.proofs.Common.{◌≡◌, ◌≤◌, ◌*◌, ◌^◌, ◌∙◌, ℕ, ℤ, pos, List, Some, map, length, ap, arith, sym, subst, to_z, of_z, to_z-of_z}
+use Rattle.std.proofs.Common.{◌≡◌, ◌≤◌, ◌-◌, ◌*◌, ◌^◌, ◌∙◌, ℕ, ℤ, pos, List, Some, map, length, ap, arith, sym, subst, to_z, of_z, to_z-of_z}
 use Rattle.std.specs.Int.{w128}
 use Rattle.std.specs.List.{All}
 use Rattle.std.proofs.lemmas.List.{length-map}
@@ -25,7 +25,7 @@ use Rattle.node_compile.proofs.leaf.benchmarked_table.Goals as goal
 pub chained-requires-clause-values : goal.chained-requires-clause-values
 chained-requires-clause-values g c =
     let values : c.in_ok-flows.flows.value ≡ map Value c.in_ok-values.values.items = c.in_ok-flows.ensures.value ∙ ap (λ (l : List ℤ). map Value l) c.deref-12.ensures.value in
-    wider (10 ^ 24) (10 ^ 27) c.in_ok-flows.flows.value (omega arith) (values_sized c.in_ok-values.values.items c.in_ok-flows.flows.value values c.in_ok-values.ensures.sizes)
+    wider (10 ^ 24 - 1) (10 ^ 27) c.in_ok-flows.flows.value (omega arith) (values_sized c.in_ok-values.values.items c.in_ok-flows.flows.value values c.in_ok-values.ensures.sizes)
 
 pub chained-requires-clause-volumes : goal.chained-requires-clause-volumes
 chained-requires-clause-volumes g c = wider (10 ^ 15) (512 * 10 ^ 15) c.in_ok-flows.flows.prev (omega arith) (volumes_sized _ _ _ c.in_ok-flows.ensures.prev)
@@ -65,11 +65,20 @@ returns-clause-table g c =
     let same = ap (λ (n : ℤ). chained_table (Some (record { indicators = c.args.ind.items; benchmarks = c.args.bench.items; scale = c.scale_of-scale.result; multipliers = u; gap = n })) c.in_ok-flows.flows.value c.in_ok-flows.flows.prev c.args.reference.0) kept in
     if_ok c.chained.result _ _ (λ table e. e ∙ same ∙ made ∙ ap (λ (ys : List YearPart). table_of_years c.args.ind.items c.args.prices.now c.args.bench.items c.args.reference.0 ys) years) c.chained.ensures
 
+pub returns-clause-quarters : goal.returns-clause-quarters
+returns-clause-quarters g c =
+    let as_many : length c.in_ok-flows.flows.value ≡ length c.args.ind.items =
+    simp length-map at (ap (λ (l : List Cell). length l) c.in_ok-flows.ensures.value)
+    ∙ ap (λ (l : List ℤ). length l) c.deref-12.ensures.value
+    ∙ c.in_ok-values.ensures.quarters.same_length
+    ∙ ap (λ (l : List ℕ). length l) c.deref-7.ensures.value in
+    if_ok c.chained.result _ _ (λ table e. ap (λ (t : Table). length t.value) e ∙ as_many) c.chained.ensures
+
 pub returns-clause-value_sizes : goal.returns-clause-value_sizes
 returns-clause-value_sizes g c =
     let values : c.in_ok-flows.flows.value ≡ map Value c.in_ok-values.values.items = c.in_ok-flows.ensures.value ∙ ap (λ (l : List ℤ). map Value l) c.deref-12.ensures.value in
     let sized = values_sized c.in_ok-values.values.items c.in_ok-flows.flows.value values c.in_ok-values.ensures.sizes in
-    if_ok c.chained.result _ _ (λ table e. subst (λ (l : List Cell). All (IsSizedCell (10 ^ 24)) l) (sym (ap (λ (t : Table). t.value) e)) sized) c.chained.ensures
+    if_ok c.chained.result _ _ (λ table e. subst (λ (l : List Cell). All (IsSizedCell (10 ^ 24 - 1)) l) (sym (ap (λ (t : Table). t.value) e)) sized) c.chained.ensures
 
 pub returns-clause-volume_sizes : goal.returns-clause-volume_sizes
 returns-clause-volume_sizes g c =
