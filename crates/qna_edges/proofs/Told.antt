@@ -7,7 +7,7 @@ use Rattle.std.specs.Io.KnownBytes.{Appends, Keeps}
 use Rattle.qna_edges.specs.Told.{AppendsPrefix}
 
 -- the first part of a text, and then the first bytes of what is left of it
-take-rest : (text : List ℕ) (done k : ℕ) → take done text ++ take k (take (length text - done) (drop done text)) ≡ take (done + k) text
+pub take-rest : (text : List ℕ) (done k : ℕ) → take done text ++ take k (take (length text - done) (drop done text)) ≡ take (done + k) text
 take-rest text done k =
     let whole : take (length text - done) (drop done text) ≡ drop done text = take_all _ _ (omega (arith, length-drop done text)) in
     rw (whole, take-add done k text) refl

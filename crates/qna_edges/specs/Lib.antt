@@ -2,7 +2,11 @@ pub mod Count
 pub mod MemCabinet
 pub mod Memory
 pub mod Names
+pub mod Paper
 pub mod Refused
+pub mod Shelves
 pub mod Status
+pub mod Stock
 pub mod Tally
 pub mod Told
+pub mod Untold

@@ -1,8 +1,9 @@
 // Files and standard output, by std. What the system does with them no clause can say, so nothing here tells its bytes.
 ghost use Rattle.std.specs.Prelude.{◌≡◌, ◌<◌, ◌≤◌, ℕ, List, IsTrue, length, false, None, IfOk, OnOk, OnErr, IsErrOf};
 ghost use Rattle.std.specs.Io.{ReadsAtMost};
-ghost use Rattle.qna_edges.specs.Memory.{next_number};
-ghost use Rattle.qna_edges.specs.Tally.{counts_of, has_room, no_faults};
+ghost use Rattle.qna_edges.specs.Count.{capped};
+ghost use Rattle.qna_edges.specs.Tally.{counts_of, has_room};
+ghost use Rattle.qna_edges.specs.Untold.{untold, no_shelf};
 
 use crate::tally::{Kind, Tally};
 use crate::{Cabinet, Failed, Refused, Sink, Source};
@@ -18,7 +19,7 @@ fn write_counted<W: Write>(device: &mut W, bytes: &[u8], faults: &mut u64) -> Re
     ensures bound { IfOk result (λ n. n ≤ length bytes.now) }
     ensures later { faults.old ≤ faults.new }
     ensures well { OnOk result (faults.new ≡ faults.old) }
-    ensures fault { OnErr result (faults.new ≡ next_number faults.old) }
+    ensures fault { OnErr result (faults.new ≡ capped faults.old 1) }
     ensures failed { OnErr result (IsErrOf result Refused.Failed) }
 {
     match device.write(bytes) {
@@ -41,11 +42,7 @@ pub struct FileSource<F: Read + Send + Drop> {
 impl<F: Read + Send + Drop> Source for FileSource<F> {
     ghost use Rattle.std.specs.String.{string_bytes};
 
-    ghost left = { λ _. None };
-
-    ghost faults = { λ s. s.faults };
-
-    ghost name = { λ s. string_bytes s.name };
+    ghost stock = { λ s. record { left = None; faults = s.faults; name = string_bytes s.name } };
 
     fn read(&mut self, buf: &mut [u8]) -> Result<usize, Failed> {
         match self.file.read(buf) {
@@ -69,13 +66,24 @@ pub struct FileSink<F: Write + Send + Drop> {
 impl<F: Write + Send + Drop> Sink for FileSink<F> {
     ghost use Rattle.std.specs.String.{string_bytes};
 
-    ghost held = { λ _. None };
+    ghost paper = { λ k. record {
+      held = None;
+      faults = k.faults;
+      wants = 0;
+      name = string_bytes k.name;
+    } };
 
-    ghost faults = { λ k. k.faults };
-
-    ghost name = { λ k. string_bytes k.name };
-
-    fn write(&mut self, bytes: &[u8]) -> Result<usize, Refused> {
+    /// It never answers `Memory`.
+    fn write(&mut self, bytes: &[u8]) -> Result<usize, Refused>
+        requires { 0 < length bytes.now }
+        ensures some { IfOk result (λ n. 0 < n) }
+        ensures bound { IfOk result (λ n. n ≤ length bytes.now) }
+        ensures ok { OnOk result (self.new.faults ≡ self.old.faults) }
+        ensures failed { IsErrOf result Refused.Failed →
+            self.new.faults ≡ capped self.old.faults 1 }
+        ensures same_name { self.new.name ≡ self.old.name }
+        ensures memory { IsErrOf result Refused.Memory → ⊥ }
+    {
         write_counted(&mut self.file, bytes, &mut self.faults)
     }
 }
@@ -90,7 +98,7 @@ pub struct StdoutSink {
 impl StdoutSink {
     /// Standard output as a sink, with an empty name.
     pub fn new(out: Stdout) -> StdoutSink
-        ensures { ⟦<StdoutSink as Sink>⟧.faults result ≡ 0 }
+        ensures { (⟦<StdoutSink as Sink>⟧.paper result).faults ≡ 0 }
     {
         StdoutSink { out, faults: 0 }
     }
@@ -99,13 +107,18 @@ impl StdoutSink {
 impl Sink for StdoutSink {
     ghost use Rattle.std.specs.Prelude.{[]};
 
-    ghost held = { λ _. None };
+    ghost paper = { λ k. record { held = None; faults = k.faults; wants = 0; name = [] } };
 
-    ghost faults = { λ k. k.faults };
-
-    ghost name = { λ _. [] };
-
-    fn write(&mut self, bytes: &[u8]) -> Result<usize, Refused> {
+    /// It never answers `Memory`.
+    fn write(&mut self, bytes: &[u8]) -> Result<usize, Refused>
+        requires { 0 < length bytes.now }
+        ensures some { IfOk result (λ n. 0 < n) }
+        ensures bound { IfOk result (λ n. n ≤ length bytes.now) }
+        ensures ok { OnOk result (self.new.faults ≡ self.old.faults) }
+        ensures failed { IsErrOf result Refused.Failed →
+            self.new.faults ≡ capped self.old.faults 1 }
+        ensures memory { IsErrOf result Refused.Memory → ⊥ }
+    {
         write_counted(&mut self.out, bytes, &mut self.faults)
     }
 }
@@ -116,6 +129,7 @@ pub struct FileCabinet<R: Files + Drop> {
     rt: R,
     alloc: Global,
     tally: Tally,
+    out: u64,
 }
 
 impl<R: Files + Drop> FileCabinet<R>
@@ -124,15 +138,15 @@ where
 {
     /// The files that `rt` reaches, none of which has failed so far.
     pub fn new(rt: R, alloc: Global) -> FileCabinet<R>
-        ensures opens { (n : List ℕ) → ⟦<FileCabinet<R> as Cabinet>⟧.open_faults result n ≡ 0 }
-        ensures creates { (n : List ℕ) → ⟦<FileCabinet<R> as Cabinet>⟧.create_faults result n ≡ 0 }
-        ensures reads { (n : List ℕ) → ⟦<FileCabinet<R> as Cabinet>⟧.read_faults result n ≡ 0 }
-        ensures writes { (n : List ℕ) → ⟦<FileCabinet<R> as Cabinet>⟧.write_faults result n ≡ 0 }
+        ensures none { (n : List ℕ) →
+            (⟦<FileCabinet<R> as Cabinet>⟧.shelves result).under n ≡ no_shelf }
+        ensures out { (⟦<FileCabinet<R> as Cabinet>⟧.shelves result).out ≡ 0 }
     {
         FileCabinet {
             rt,
             alloc,
             tally: Tally::new(alloc),
+            out: 0,
         }
     }
 }
@@ -145,31 +159,29 @@ where
 
     type Out = FileSink<R::File>;
 
-    ghost open_faults = { λ c n. (counts_of c.tally n).opens };
-
-    ghost create_faults = { λ c n. (counts_of c.tally n).creates };
-
-    ghost read_faults = { λ c n. (counts_of c.tally n).reads };
-
-    ghost write_faults = { λ c n. (counts_of c.tally n).writes };
+    ghost shelves = { λ c. record {
+      under = λ n. untold (counts_of c.tally n);
+      tells = false;
+      out = c.out;
+    } };
 
     ghost knows = { λ c n. IsTrue (has_room c.tally n) };
 
-    ghost tells = { λ _. false };
-
-    ghost file = { λ _ _. None };
-
-    ghost rest = { λ _ _. 0 };
-
     fn open(&mut self, name: &str) -> Result<FileSource<R::File>, Refused> {
+        if self.out == u64::MAX {
+            return Err(Refused::Memory);
+        }
         self.tally.reserve(name)?;
         let own = String::from_str(self.alloc, name)?;
         match fs::open(&self.rt, name) {
-            Ok(file) => Ok(FileSource {
-                file,
-                faults: 0,
-                name: own,
-            }),
+            Ok(file) => {
+                self.out += 1;
+                Ok(FileSource {
+                    file,
+                    faults: 0,
+                    name: own,
+                })
+            }
             Err(_) => {
                 self.tally.raise(Kind::Open, 1, name);
                 Err(Refused::Failed)
@@ -178,14 +190,24 @@ where
     }
 
     fn create(&mut self, name: &str) -> Result<FileSink<R::File>, Refused> {
+        if self.out == u64::MAX {
+            return Err(Refused::Memory);
+        }
         self.tally.reserve(name)?;
+        if self.tally.given(name) == u64::MAX {
+            return Err(Refused::Memory);
+        }
         let own = String::from_str(self.alloc, name)?;
         match fs::create(&self.rt, name) {
-            Ok(file) => Ok(FileSink {
-                file,
-                faults: 0,
-                name: own,
-            }),
+            Ok(file) => {
+                self.tally.give(name);
+                self.out += 1;
+                Ok(FileSink {
+                    file,
+                    faults: 0,
+                    name: own,
+                })
+            }
             Err(_) => {
                 self.tally.raise(Kind::Create, 1, name);
                 Err(Refused::Failed)
@@ -194,11 +216,13 @@ where
     }
 
     fn back_in(&mut self, source: FileSource<R::File>) {
+        self.out = self.out.saturating_sub(1);
         self.tally
             .raise(Kind::Read, source.faults, source.name.as_str());
     }
 
     fn back_out(&mut self, sink: FileSink<R::File>) {
+        self.out = self.out.saturating_sub(1);
         self.tally
             .raise(Kind::Write, sink.faults, sink.name.as_str());
     }

@@ -11,9 +11,9 @@ use qna_base::Memory;
 use std::alloc::{AllocError, Global};
 use std::collections::BTreeMap;
 
-/// What a cabinet has under one name.
+/// What stands under one name, the sink that was planned for it, and what the last source of it had left.
 #[derive(Drop)]
-pub(crate) struct Shelf {
+pub(crate) struct Drawer {
     pub file: Option<MemSource>,
     pub plan: Option<MemSink>,
     pub rest: u64,
@@ -25,30 +25,32 @@ pub(crate) struct Shelf {
 pub struct MemCabinet {
     alloc: Global,
     tally: Tally,
-    shelves: BTreeMap<String, Shelf>,
+    drawers: BTreeMap<String, Drawer>,
     fails: Vec<u64>,
     calls: u64,
+    out: u64,
 }
 
 impl MemCabinet {
-    ghost use Rattle.qna_edges.specs.Tally.{no_faults};
-    ghost use Rattle.qna_edges.specs.MemCabinet.{shelf_of, has_shelf, file_of, bytes_of, plan_of, rest_of, faults_of, calls_of, fails_of, Knows, opened, created};
+    ghost use Rattle.qna_edges.specs.Tally.{nothing_counted};
+    ghost use Rattle.qna_edges.specs.MemCabinet.{drawer_of, has_drawer, file_of, bytes_of, plan_of, rest_of, counted_of, calls_of, fails_of, Knows, opened, created};
 
     /// A cabinet without files, none of whose calls is to fail.
     pub fn new(alloc: Global) -> MemCabinet
         ensures files { (n : List ℕ) → file_of result n ≡ None }
         ensures plans { (n : List ℕ) → plan_of result n ≡ None }
         ensures rests { (n : List ℕ) → rest_of result n ≡ 0 }
-        ensures faults { (n : List ℕ) → faults_of result n ≡ no_faults }
+        ensures counts { (n : List ℕ) → counted_of result n ≡ nothing_counted }
         ensures calls { calls_of result ≡ 0 }
         ensures fails { fails_of result ≡ [] }
     {
         MemCabinet {
             alloc,
             tally: Tally::new(alloc),
-            shelves: BTreeMap::new(alloc),
+            drawers: BTreeMap::new(alloc),
             fails: Vec::new(alloc),
             calls: 0,
+            out: 0,
         }
     }
 
@@ -58,18 +60,18 @@ impl MemCabinet {
     pub fn put_file(&mut self, name: &str, source: MemSource) -> Result<(), Memory>
         requires { source.faults ≡ 0 }
         ensures put { OnOk result (file_of self.new name.now ≡ Some source) }
-        ensures memory { OnErr result (SameAtAll (shelf_of self.old) (shelf_of self.new)) }
-        ensures others { SameAtOthers (shelf_of self.old) (shelf_of self.new) name.now }
+        ensures memory { OnErr result (SameAtAll (drawer_of self.old) (drawer_of self.new)) }
+        ensures others { SameAtOthers (drawer_of self.old) (drawer_of self.new) name.now }
         ensures plan { plan_of self.new name.now ≡ plan_of self.old name.now }
         ensures rest { rest_of self.new name.now ≡ rest_of self.old name.now }
-        ensures faults { SameAtAll (faults_of self.old) (faults_of self.new) }
+        ensures counts { SameAtAll (counted_of self.old) (counted_of self.new) }
         ensures stays_known { StaysKnown (Knows self.old) (Knows self.new) }
         ensures calls { calls_of self.new ≡ calls_of self.old }
         ensures fails { fails_of self.new ≡ fails_of self.old }
     {
         self.place(name)?;
-        if let Some(shelf) = self.shelves.get_mut(name) {
-            shelf.file = Some(source);
+        if let Some(drawer) = self.drawers.get_mut(name) {
+            drawer.file = Some(source);
         }
         Ok(())
     }
@@ -81,18 +83,18 @@ impl MemCabinet {
         requires empty { sink.held ≡ [] }
         requires well { sink.faults ≡ 0 }
         ensures planned { OnOk result (plan_of self.new name.now ≡ Some sink) }
-        ensures memory { OnErr result (SameAtAll (shelf_of self.old) (shelf_of self.new)) }
-        ensures others { SameAtOthers (shelf_of self.old) (shelf_of self.new) name.now }
+        ensures memory { OnErr result (SameAtAll (drawer_of self.old) (drawer_of self.new)) }
+        ensures others { SameAtOthers (drawer_of self.old) (drawer_of self.new) name.now }
         ensures file { file_of self.new name.now ≡ file_of self.old name.now }
         ensures rest { rest_of self.new name.now ≡ rest_of self.old name.now }
-        ensures faults { SameAtAll (faults_of self.old) (faults_of self.new) }
+        ensures counts { SameAtAll (counted_of self.old) (counted_of self.new) }
         ensures stays_known { StaysKnown (Knows self.old) (Knows self.new) }
         ensures calls { calls_of self.new ≡ calls_of self.old }
         ensures fails { fails_of self.new ≡ fails_of self.old }
     {
         self.place(name)?;
-        if let Some(shelf) = self.shelves.get_mut(name) {
-            shelf.plan = Some(sink);
+        if let Some(drawer) = self.drawers.get_mut(name) {
+            drawer.plan = Some(sink);
         }
         Ok(())
     }
@@ -101,8 +103,8 @@ impl MemCabinet {
     pub fn fail_opens(&mut self, calls: Vec<u64>)
         ensures fails { fails_of self.new ≡ calls.items }
         ensures calls { calls_of self.new ≡ calls_of self.old }
-        ensures shelves { SameAtAll (shelf_of self.old) (shelf_of self.new) }
-        ensures faults { SameAtAll (faults_of self.old) (faults_of self.new) }
+        ensures drawers { SameAtAll (drawer_of self.old) (drawer_of self.new) }
+        ensures counts { SameAtAll (counted_of self.old) (counted_of self.new) }
         ensures stays_known { StaysKnown (Knows self.old) (Knows self.new) }
     {
         self.fails = calls;
@@ -119,34 +121,36 @@ impl MemCabinet {
     fn standing(&self, name: &str) -> Option<&MemSource>
         ensures { option_copied result ≡ file_of self.now name.now }
     {
-        self.shelves.get(name)?.file.as_ref()
+        self.drawers.get(name)?.file.as_ref()
     }
 
     // The sink that was planned for the name.
     fn planned(&self, name: &str) -> Option<&MemSink>
         ensures { option_copied result ≡ plan_of self.now name.now }
     {
-        self.shelves.get(name)?.plan.as_ref()
+        self.drawers.get(name)?.plan.as_ref()
     }
 
     // Takes the room for what stands under a name.
     #[tactic(auto, using(std::proofs::lemmas::Map::Text::text_keys))]
     fn place(&mut self, name: &str) -> Result<(), Memory>
-        ensures placed { OnOk result (IsTrue (has_shelf self.new name.now)) }
-        ensures shelves { SameAtAll (shelf_of self.old) (shelf_of self.new) }
-        ensures stays { StaysKnown (λ n. IsTrue (has_shelf self.old n)) (λ n. IsTrue (has_shelf self.new n)) }
+        ensures placed { OnOk result (IsTrue (has_drawer self.new name.now)) }
+        ensures drawers { SameAtAll (drawer_of self.old) (drawer_of self.new) }
+        ensures stays { StaysKnown (λ n. IsTrue (has_drawer self.old n))
+            (λ n. IsTrue (has_drawer self.new n)) }
         ensures tally { self.new.tally ≡ self.old.tally }
         ensures fails { self.new.fails ≡ self.old.fails }
         ensures calls { self.new.calls ≡ self.old.calls }
+        ensures out { self.new.out ≡ self.old.out }
     {
-        if !self.shelves.contains_key(name) {
+        if !self.drawers.contains_key(name) {
             let key = String::from_str(self.alloc, name)?;
-            let empty = Shelf {
+            let empty = Drawer {
                 file: None,
                 plan: None,
                 rest: 0,
             };
-            self.shelves.insert(key, empty)?;
+            self.drawers.insert(key, empty)?;
         }
         Ok(())
     }
@@ -154,11 +158,12 @@ impl MemCabinet {
     // Takes the room for a name's counts, and then for what stands there.
     fn reserve(&mut self, name: &str) -> Result<(), Memory>
         ensures known { OnOk result (Knows self.new name.now) }
-        ensures shelves { SameAtAll (shelf_of self.old) (shelf_of self.new) }
-        ensures faults { SameAtAll (faults_of self.old) (faults_of self.new) }
+        ensures drawers { SameAtAll (drawer_of self.old) (drawer_of self.new) }
+        ensures counts { SameAtAll (counted_of self.old) (counted_of self.new) }
         ensures stays_known { StaysKnown (Knows self.old) (Knows self.new) }
         ensures fails { self.new.fails ≡ self.old.fails }
         ensures calls { self.new.calls ≡ self.old.calls }
+        ensures out { self.new.out ≡ self.old.out }
     {
         self.tally.reserve(name)?;
         self.place(name)
@@ -175,7 +180,8 @@ impl MemCabinet {
 
     // The source that `open` gives, where something stands under the name.
     fn source_of(&self, name: &str) -> Result<Option<MemSource>, AllocError>
-        ensures { IfOk result (λ source. source ≡ option_map (λ file. opened file name.now) (file_of self.now name.now)) }
+        ensures { IfOk result (λ source.
+            source ≡ option_map (λ file. opened file name.now) (file_of self.now name.now)) }
     {
         match self.standing(name) {
             Some(file) => {
@@ -203,58 +209,54 @@ impl Cabinet for MemCabinet {
 
     type Out = MemSink;
 
-    ghost use Rattle.std.specs.Prelude.{true};
-    ghost use Rattle.qna_edges.specs.MemCabinet.{shelf_of, file_of, bytes_of, plan_of, rest_of, faults_of, open_faults_of, create_faults_of, read_faults_of, write_faults_of, calls_of, fails_of, Knows, next_fails, open_fails, opened, created, kept};
+    ghost use Rattle.qna_edges.specs.Shelves.{Same, GivesSource, GivesSink, OpenFails, CreateFails, BackIn, BackOut};
+    ghost use Rattle.qna_edges.specs.MemCabinet.{shelves_of, file_of, bytes_of, plan_of, open_faults_of, create_faults_of, calls_of, fails_of, Knows, next_fails, open_fails, opened, created, kept};
+    ghost use Rattle.qna_edges.specs.Memory.{stock_of, paper_of};
 
-    ghost open_faults = { open_faults_of };
-
-    ghost create_faults = { create_faults_of };
-
-    ghost read_faults = { read_faults_of };
-
-    ghost write_faults = { write_faults_of };
+    ghost shelves = { shelves_of };
 
     ghost knows = { Knows };
 
-    ghost tells = { λ _. true };
-
-    ghost file = { bytes_of };
-
-    ghost rest = { rest_of };
-
     /// A source of what stands under the name, which reads like the one that was put there.
-    /// It fails exactly where the call is listed or nothing stands under the name. A call that answers `Memory` isn't counted.
+    /// It fails exactly where the call is listed or nothing stands under the name. A call that answers `Memory`
+    /// isn't counted.
     fn open(&mut self, name: &str) -> Result<MemSource, Refused>
         ensures source { IfOk result (λ s. (s.name ≡ name.now) × (s.faults ≡ 0)) }
-        ensures known { OnOk result (Knows self.new name.now) }
         ensures left { IfOk result (λ s. Some s.left ≡ bytes_of self.old name.now) }
-        ensures cause { IsErrOf result Refused.Failed → Rose (open_faults_of self.old name.now) (open_faults_of self.new name.now) }
-        ensures memory { IsErrOf result Refused.Memory → SameAtAll (open_faults_of self.old) (open_faults_of self.new) }
-        ensures later { (n : List ℕ) → open_faults_of self.old n ≤ open_faults_of self.new n }
-        ensures opens { SameAtOthers (open_faults_of self.old) (open_faults_of self.new) name.now }
-        ensures creates { SameAtAll (create_faults_of self.old) (create_faults_of self.new) }
-        ensures reads { SameAtAll (read_faults_of self.old) (read_faults_of self.new) }
-        ensures writes { SameAtAll (write_faults_of self.old) (write_faults_of self.new) }
+        ensures known { OnOk result (Knows self.new name.now) }
         ensures stays_known { StaysKnown (Knows self.old) (Knows self.new) }
-        ensures files { SameAtAll (bytes_of self.old) (bytes_of self.new) }
-        ensures rests { SameAtAll (rest_of self.old) (rest_of self.new) }
+        ensures ok { OnOk result (GivesSource (shelves_of self.old) (shelves_of self.new)) }
+        ensures failed { IsErrOf result Refused.Failed →
+            OpenFails (shelves_of self.old) (shelves_of self.new) name.now }
+        ensures memory { IsErrOf result Refused.Memory →
+            Same (shelves_of self.old) (shelves_of self.new) }
 
-        ensures given { IfOk result (λ s. Some s ≡ option_map (λ file. opened file name.now) (file_of self.old name.now)) }
+        ensures given { IfOk result (λ s.
+            Some s ≡ option_map (λ file. opened file name.now) (file_of self.old name.now)) }
         ensures well { OnOk result (open_fails self.old name.now ≡ false) }
         ensures failing { IsErrOf result Refused.Failed → open_fails self.old name.now ≡ true }
-        ensures well_counts { OnOk result (SameAtAll (faults_of self.old) (faults_of self.new)) }
-        ensures one_more { IsErrOf result Refused.Failed → open_faults_of self.new name.now ≡ capped (open_faults_of self.old name.now) 1 }
+        ensures one_more { IsErrOf result Refused.Failed →
+            open_faults_of self.new name.now ≡ capped (open_faults_of self.old name.now) 1 }
         ensures counted { OnOk result (calls_of self.new ≡ next_number (calls_of self.old)) }
-        ensures counted_failing { IsErrOf result Refused.Failed → calls_of self.new ≡ next_number (calls_of self.old) }
-        ensures not_counted { IsErrOf result Refused.Memory → calls_of self.new ≡ calls_of self.old }
+        ensures counted_failing { IsErrOf result Refused.Failed →
+            calls_of self.new ≡ next_number (calls_of self.old) }
+        ensures not_counted { IsErrOf result Refused.Memory →
+            calls_of self.new ≡ calls_of self.old }
         ensures fails { fails_of self.new ≡ fails_of self.old }
-        ensures shelves { SameAtAll (shelf_of self.old) (shelf_of self.new) }
+        ensures same_files { SameAtAll (file_of self.old) (file_of self.new) }
+        ensures plans { SameAtAll (plan_of self.old) (plan_of self.new) }
     {
+        if self.out == u64::MAX {
+            return Err(Refused::Memory);
+        }
         self.reserve(name)?;
         let source = self.source_of(name)?;
         let listed = self.count_call();
         match source {
-            Some(source) if !listed => Ok(source),
+            Some(source) if !listed => {
+                self.out += 1;
+                Ok(source)
+            }
             _ => {
                 self.tally.raise(Kind::Open, 1, name);
                 Err(Refused::Failed)
@@ -266,61 +268,61 @@ impl Cabinet for MemCabinet {
     /// It fails exactly where the call is listed. A call that answers `Memory` isn't counted.
     fn create(&mut self, name: &str) -> Result<MemSink, Refused>
         ensures sink { IfOk result (λ k. (k.name ≡ name.now) × (k.faults ≡ 0)) }
-        ensures known { OnOk result (Knows self.new name.now) }
         ensures told { IfOk result (λ k. k.held ≡ []) }
-        ensures cause { IsErrOf result Refused.Failed → Rose (create_faults_of self.old name.now) (create_faults_of self.new name.now) }
-        ensures memory { IsErrOf result Refused.Memory → SameAtAll (create_faults_of self.old) (create_faults_of self.new) }
-        ensures later { (n : List ℕ) → create_faults_of self.old n ≤ create_faults_of self.new n }
-        ensures creates { SameAtOthers (create_faults_of self.old) (create_faults_of self.new) name.now }
-        ensures opens { SameAtAll (open_faults_of self.old) (open_faults_of self.new) }
-        ensures reads { SameAtAll (read_faults_of self.old) (read_faults_of self.new) }
-        ensures writes { SameAtAll (write_faults_of self.old) (write_faults_of self.new) }
+        ensures known { OnOk result (Knows self.new name.now) }
         ensures stays_known { StaysKnown (Knows self.old) (Knows self.new) }
-        ensures files { SameAtAll (bytes_of self.old) (bytes_of self.new) }
-        ensures rests { SameAtAll (rest_of self.old) (rest_of self.new) }
+        ensures ok { OnOk result (GivesSink (shelves_of self.old) (shelves_of self.new) name.now) }
+        ensures failed { IsErrOf result Refused.Failed →
+            CreateFails (shelves_of self.old) (shelves_of self.new) name.now }
+        ensures memory { IsErrOf result Refused.Memory →
+            Same (shelves_of self.old) (shelves_of self.new) }
 
         ensures given { IfOk result (λ k. k ≡ created (plan_of self.old name.now) name.now) }
         ensures well { OnOk result (next_fails self.old ≡ false) }
         ensures failing { IsErrOf result Refused.Failed → next_fails self.old ≡ true }
-        ensures well_counts { OnOk result (SameAtAll (faults_of self.old) (faults_of self.new)) }
-        ensures one_more { IsErrOf result Refused.Failed → create_faults_of self.new name.now ≡ capped (create_faults_of self.old name.now) 1 }
+        ensures one_more { IsErrOf result Refused.Failed →
+            create_faults_of self.new name.now ≡ capped (create_faults_of self.old name.now) 1 }
         ensures counted { OnOk result (calls_of self.new ≡ next_number (calls_of self.old)) }
-        ensures counted_failing { IsErrOf result Refused.Failed → calls_of self.new ≡ next_number (calls_of self.old) }
-        ensures not_counted { IsErrOf result Refused.Memory → calls_of self.new ≡ calls_of self.old }
+        ensures counted_failing { IsErrOf result Refused.Failed →
+            calls_of self.new ≡ next_number (calls_of self.old) }
+        ensures not_counted { IsErrOf result Refused.Memory →
+            calls_of self.new ≡ calls_of self.old }
         ensures fails { fails_of self.new ≡ fails_of self.old }
-        ensures shelves { SameAtAll (shelf_of self.old) (shelf_of self.new) }
+        ensures same_files { SameAtAll (file_of self.old) (file_of self.new) }
+        ensures plans { SameAtAll (plan_of self.old) (plan_of self.new) }
     {
+        if self.out == u64::MAX {
+            return Err(Refused::Memory);
+        }
         self.reserve(name)?;
+        if self.tally.given(name) == u64::MAX {
+            return Err(Refused::Memory);
+        }
         let sink = self.sink_of(name)?;
         if self.count_call() {
             self.tally.raise(Kind::Create, 1, name);
             return Err(Refused::Failed);
         }
+        self.tally.give(name);
+        self.out += 1;
         Ok(sink)
     }
 
     #[tactic(auto, using(std::proofs::lemmas::Map::Text::text_keys))]
     fn back_in(&mut self, source: MemSource)
         requires { Knows self.old source.name }
-        ensures own { read_faults_of self.new source.name ≡ capped (read_faults_of self.old source.name) source.faults }
-        ensures rest { rest_of self.new source.name ≡ length source.left }
-        ensures later { (n : List ℕ) → read_faults_of self.old n ≤ read_faults_of self.new n }
-        ensures reads { SameAtOthers (read_faults_of self.old) (read_faults_of self.new) source.name }
-        ensures rests { SameAtOthers (rest_of self.old) (rest_of self.new) source.name }
-        ensures opens { SameAtAll (open_faults_of self.old) (open_faults_of self.new) }
-        ensures creates { SameAtAll (create_faults_of self.old) (create_faults_of self.new) }
-        ensures writes { SameAtAll (write_faults_of self.old) (write_faults_of self.new) }
         ensures stays_known { StaysKnown (Knows self.old) (Knows self.new) }
-        ensures files { SameAtAll (bytes_of self.old) (bytes_of self.new) }
+        ensures only { BackIn (shelves_of self.old) (shelves_of self.new) (stock_of source) }
 
         ensures same_files { SameAtAll (file_of self.old) (file_of self.new) }
         ensures plans { SameAtAll (plan_of self.old) (plan_of self.new) }
         ensures calls { calls_of self.new ≡ calls_of self.old }
         ensures fails { fails_of self.new ≡ fails_of self.old }
     {
+        self.out = self.out.saturating_sub(1);
         self.tally.raise(Kind::Read, source.faults(), source.name());
-        if let Some(shelf) = self.shelves.get_mut(source.name()) {
-            shelf.rest = source.left() as u64;
+        if let Some(drawer) = self.drawers.get_mut(source.name()) {
+            drawer.rest = source.left() as u64;
         }
     }
 
@@ -328,16 +330,8 @@ impl Cabinet for MemCabinet {
     #[tactic(auto, using(std::proofs::lemmas::Map::Text::text_keys))]
     fn back_out(&mut self, sink: MemSink)
         requires { Knows self.old sink.name }
-        ensures own { write_faults_of self.new sink.name ≡ capped (write_faults_of self.old sink.name) sink.faults }
-        ensures kept { bytes_of self.new sink.name ≡ Some sink.held }
-        ensures later { (n : List ℕ) → write_faults_of self.old n ≤ write_faults_of self.new n }
-        ensures writes { SameAtOthers (write_faults_of self.old) (write_faults_of self.new) sink.name }
-        ensures files { SameAtOthers (bytes_of self.old) (bytes_of self.new) sink.name }
-        ensures opens { SameAtAll (open_faults_of self.old) (open_faults_of self.new) }
-        ensures creates { SameAtAll (create_faults_of self.old) (create_faults_of self.new) }
-        ensures reads { SameAtAll (read_faults_of self.old) (read_faults_of self.new) }
         ensures stays_known { StaysKnown (Knows self.old) (Knows self.new) }
-        ensures rests { SameAtAll (rest_of self.old) (rest_of self.new) }
+        ensures only { BackOut (shelves_of self.old) (shelves_of self.new) (paper_of sink) }
 
         ensures stands { file_of self.new sink.name ≡ Some (kept sink.held) }
         ensures same_files { SameAtOthers (file_of self.old) (file_of self.new) sink.name }
@@ -346,9 +340,10 @@ impl Cabinet for MemCabinet {
         ensures fails { fails_of self.new ≡ fails_of self.old }
     {
         let alloc = self.alloc;
+        self.out = self.out.saturating_sub(1);
         self.tally.raise(Kind::Write, sink.faults(), sink.name());
-        if let Some(shelf) = self.shelves.get_mut(sink.name()) {
-            shelf.file = Some(MemSource::new(sink.into_held(), usize::MAX, Vec::new(alloc)));
+        if let Some(drawer) = self.drawers.get_mut(sink.name()) {
+            drawer.file = Some(MemSource::new(sink.into_held(), usize::MAX, Vec::new(alloc)));
         }
     }
 }

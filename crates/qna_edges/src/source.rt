@@ -5,7 +5,7 @@ ghost use Rattle.std.specs.String.{string_bytes};
 ghost use Rattle.std.specs.Io.{ReadsAtMost};
 ghost use Rattle.std.specs.Io.KnownBytes.{ReadConsumes};
 ghost use Rattle.qna_edges.specs.Count.{HasCause};
-ghost use Rattle.qna_edges.specs.Memory.{Supply, fails_at, next_number};
+ghost use Rattle.qna_edges.specs.Memory.{Supply, stock_of, fails_at, next_number};
 
 use crate::{Failed, Source};
 use std::alloc::{AllocError, Global};
@@ -26,7 +26,14 @@ pub struct MemSource {
 impl Model for MemSource {
     ghost Value = { Supply };
 
-    ghost view = { λ s. record { left = drop s.at s.bytes.items; piece = s.piece; fails = s.fails.items; reads = s.reads; faults = s.faults; name = unwrap_or (option_map string_bytes s.name) [] } };
+    ghost view = { λ s. record {
+      left = drop s.at s.bytes.items;
+      piece = s.piece;
+      fails = s.fails.items;
+      reads = s.reads;
+      faults = s.faults;
+      name = unwrap_or (option_map string_bytes s.name) [];
+    } };
 
     ghost invariant = { λ s. (s.at ≤ length s.bytes.items) × (0 < s.piece) };
 }
@@ -36,7 +43,14 @@ impl MemSource {
     /// and no others. Its name is empty.
     pub fn new(bytes: Vec<u8>, piece: usize, fails: Vec<u64>) -> MemSource
         requires { 0 < piece }
-        ensures { result ≡ record { left = bytes.items; piece = piece; fails = fails.items; reads = 0; faults = 0; name = [] } }
+        ensures { result ≡ record {
+          left = bytes.items;
+          piece = piece;
+          fails = fails.items;
+          reads = 0;
+          faults = 0;
+          name = [];
+        } }
     {
         MemSource {
             bytes,
@@ -103,11 +117,7 @@ fn give(rest: &[u8], piece: usize, buf: &mut [u8]) -> usize
 }
 
 impl Source for MemSource {
-    ghost left = { λ s. Some s.left };
-
-    ghost faults = { λ s. s.faults };
-
-    ghost name = { λ s. s.name };
+    ghost stock = { stock_of };
 
     /// Gives as many bytes as the piece, the buffer and what is left allow, and fails exactly at the listed reads.
     fn read(&mut self, buf: &mut [u8]) -> Result<usize, Failed>
@@ -119,7 +129,8 @@ impl Source for MemSource {
 
         ensures number { self.new.reads ≡ next_number self.old.reads }
         ensures fails { is_err result ≡ fails_at self.old.fails self.new.reads }
-        ensures count { IfOk result (λ n. n ≡ min self.old.piece (min (length buf.old) (length self.old.left))) }
+        ensures count { IfOk result (λ n.
+            n ≡ min self.old.piece (min (length buf.old) (length self.old.left))) }
         ensures well { OnOk result (self.new.faults ≡ self.old.faults) }
         ensures fault { OnErr result (self.new.faults ≡ next_number self.old.faults) }
         ensures same_piece { self.new.piece ≡ self.old.piece }
@@ -161,11 +172,7 @@ impl QuietSource {
 }
 
 impl Source for QuietSource {
-    ghost left = { λ s. Some s };
-
-    ghost faults = { λ _. 0 };
-
-    ghost name = { λ _. [] };
+    ghost stock = { λ s. record { left = Some s; faults = 0; name = [] } };
 
     /// Gives as many bytes as the buffer and what is left allow.
     fn read(&mut self, buf: &mut [u8]) -> Result<usize, Failed>

@@ -1,5 +1,5 @@
-// The counts of faults that a cabinet keeps for each name.
-ghost use Rattle.std.specs.Prelude.{◌≡◌, IsTrue, OnOk};
+// What a cabinet counts for each name.
+ghost use Rattle.std.specs.Prelude.{◌≡◌, ◌<◌, ◌-◌, ◌^◌, ℕ, List, IsTrue, OnOk};
 
 use qna_base::Memory;
 use std::alloc::Global;
@@ -14,17 +14,18 @@ pub(crate) enum Kind {
     Write,
 }
 
-/// How often each kind of call failed under one name.
+/// How often each kind of call failed under one name, and how many sinks were given for it.
 #[derive(Clone, Copy)]
 pub(crate) struct Counts {
     pub opens: u64,
     pub creates: u64,
     pub reads: u64,
     pub writes: u64,
+    pub given: u64,
 }
 
 impl Counts {
-    ghost use Rattle.qna_edges.specs.Tally.{raised};
+    ghost use Rattle.qna_edges.specs.Tally.{raised, one_given};
 
     fn raise(&mut self, kind: Kind, more: u64)
         ensures { self.new ≡ raised kind self.old more }
@@ -35,6 +36,13 @@ impl Counts {
             Kind::Read => self.reads = self.reads.saturating_add(more),
             Kind::Write => self.writes = self.writes.saturating_add(more),
         }
+    }
+
+    fn give(&mut self)
+        requires { self.old.given < 2 ^ 64 - 1 }
+        ensures { self.new ≡ one_given self.old }
+    {
+        self.given += 1;
     }
 }
 
@@ -47,10 +55,10 @@ pub(crate) struct Tally {
 
 impl Tally {
     ghost use Rattle.qna_edges.specs.Names.{SameAtAll, SameAtOthers, StaysKnown};
-    ghost use Rattle.qna_edges.specs.Tally.{counts_of, has_room, no_faults, raised};
+    ghost use Rattle.qna_edges.specs.Tally.{counts_of, has_room, nothing_counted, raised, one_given};
 
     pub(crate) fn new(alloc: Global) -> Tally
-        ensures { (n : _) → counts_of result n ≡ no_faults }
+        ensures { (n : List ℕ) → counts_of result n ≡ nothing_counted }
     {
         Tally {
             alloc,
@@ -62,7 +70,8 @@ impl Tally {
     #[tactic(auto, using(std::proofs::lemmas::Map::Text::text_keys))]
     pub(crate) fn reserve(&mut self, name: &str) -> Result<(), Memory>
         ensures room { OnOk result (IsTrue (has_room self.new name.now)) }
-        ensures stays { StaysKnown (λ n. IsTrue (has_room self.old n)) (λ n. IsTrue (has_room self.new n)) }
+        ensures stays { StaysKnown (λ n. IsTrue (has_room self.old n))
+            (λ n. IsTrue (has_room self.new n)) }
         ensures counts { SameAtAll (counts_of self.old) (counts_of self.new) }
     {
         if !self.counts.contains_key(name) {
@@ -72,6 +81,7 @@ impl Tally {
                 creates: 0,
                 reads: 0,
                 writes: 0,
+                given: 0,
             };
             self.counts.insert(key, none)?;
         }
@@ -84,10 +94,36 @@ impl Tally {
         requires { IsTrue (has_room self.old name.now) }
         ensures at { counts_of self.new name.now ≡ raised kind (counts_of self.old name.now) more }
         ensures others { SameAtOthers (counts_of self.old) (counts_of self.new) name.now }
-        ensures stays { StaysKnown (λ n. IsTrue (has_room self.old n)) (λ n. IsTrue (has_room self.new n)) }
+        ensures stays { StaysKnown (λ n. IsTrue (has_room self.old n))
+            (λ n. IsTrue (has_room self.new n)) }
     {
         if let Some(counts) = self.counts.get_mut(name) {
             counts.raise(kind, more);
+        }
+    }
+
+    // How many sinks were given for a name.
+    pub(crate) fn given(&self, name: &str) -> u64
+        ensures { result ≡ (counts_of self.now name.now).given }
+    {
+        match self.counts.get(name) {
+            Some(counts) => counts.given,
+            None => 0,
+        }
+    }
+
+    // Counts a sink that is given for a name.
+    #[tactic(auto, using(std::proofs::lemmas::Map::Text::text_keys))]
+    pub(crate) fn give(&mut self, name: &str)
+        requires room { IsTrue (has_room self.old name.now) }
+        requires more { (counts_of self.old name.now).given < 2 ^ 64 - 1 }
+        ensures at { counts_of self.new name.now ≡ one_given (counts_of self.old name.now) }
+        ensures others { SameAtOthers (counts_of self.old) (counts_of self.new) name.now }
+        ensures stays { StaysKnown (λ n. IsTrue (has_room self.old n))
+            (λ n. IsTrue (has_room self.new n)) }
+    {
+        if let Some(counts) = self.counts.get_mut(name) {
+            counts.give();
         }
     }
 }

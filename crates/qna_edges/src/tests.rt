@@ -82,18 +82,21 @@ fn the_listed_calls_fail_and_no_others(rt: HostRuntime) -> Result<(), Fail> {
 }
 
 #[test]
-fn a_file_is_written_and_read(rt: HostRuntime) -> Result<(), Fail> {
+fn a_file_is_written_once_and_read_in_pieces_each_time(rt: HostRuntime) -> Result<(), Fail> {
     let alloc = rt.alloc();
     let mut cabinet = FileCabinet::new(&rt, alloc);
     let mut sink = cabinet.create("qna_edges_file")?;
-    assert_eq!(rt; write_all(&mut sink, b"release,5\n"), Ok(()));
+    assert_eq!(rt; write_all(&mut sink, b"release,"), Ok(()));
+    assert_eq!(rt; write_all(&mut sink, b"5\n"), Ok(()));
     cabinet.back_out(sink);
-    let mut source = cabinet.open("qna_edges_file")?;
-    let mut buf = [0; 64];
-    let count = source.read(&mut buf)?;
-    assert_eq!(rt; &buf[..count], b"release,5\n".as_slice());
-    assert_eq!(rt; source.read(&mut buf), Ok(0));
-    cabinet.back_in(source);
+    for reading in [1, 2] {
+        let mut source = cabinet.open("qna_edges_file")?;
+        let mut buf = [0; 4];
+        for piece in ["rele", "ase,", "5\n", ""] {
+            let count = source.read(&mut buf)?;
+            assert_eq!(rt; &buf[..count], piece.as_bytes(), "reading {reading}");
+        }
+    }
     fs::remove_file(&rt, "qna_edges_file")?;
     Ok(())
 }

@@ -1,9 +1,9 @@
 -- How far an input is taken after each read.
-use Rattle.std.proofs.Common.{◌≡◌, ◌≤◌, ◌+◌, ◌∙◌, ℕ, ℤ, true, false, List, [], ◌++◌, length, Option, None, refl, sym, ap}
-use Rattle.std.specs.Io.KnownBytes.{Appends}
+use Rattle.std.proofs.Common.{◌≡◌, ◌≤◌, ◌+◌, ◌∙◌, ℕ, ℤ, true, false, List, [], ◌++◌, length, Option, None, refl, sym, ap, inl, inr}
 use Rattle.std.proofs.lemmas.List.{append-nil}
-use Rattle.qna_edges.specs.Told.{AppendsPrefix}
-use Rattle.qna_edges.proofs.Told.{AppendsPrefix-whole, AppendsPrefix-longer, AppendsPrefix-after}
+use Rattle.qna_edges.specs.Paper.{Paper, grown, BreaksOff}
+use Rattle.qna_edges.proofs.Paper.{broken_first, broken_second, refuses_from, grown_nothing}
+use Rattle.qna_parts.specs.Intake.{Stops, Breaks}
 use Rattle.line_form.specs.Lines.{TextLine, Cutting, IsCutOf, ended_lines, lines_of}
 use Rattle.line_form.proofs.CutLines.{nothing_cut}
 use Rattle.series_tables.specs.Plan.{PlanShape}
@@ -44,38 +44,31 @@ pub nothing_reported : (plan : PlanShape) → ended_refusals_text plan [] ≡ []
 unfolding ended_refusals_text refusal_lines
 nothing_reported plan = rw (no_lines, refusals_of_none plan) refl
 
--- what is reported of a longer stream begins with what is reported of a beginning of it
-pub ended_refusals-front : (plan : PlanShape) (xs ys : List ℕ) → (more : List ℕ) × (ended_refusals_text plan (xs ++ ys) ≡ ended_refusals_text plan xs ++ more)
-unfolding ended_refusals_text
-ended_refusals-front plan xs ys =
-    let front = ended_lines-front xs ys in
-    (refusal_lines (refusals_after plan (length (accepted_of plan (ended_lines xs))) front.0), rw front.1 (reported_more plan (ended_lines xs) front.0 _ refl))
-
+-- what all of an input reports begins with what a beginning of it reports
 pub refusals-front : (plan : PlanShape) (xs ys : List ℕ) → (more : List ℕ) × (refusals_text plan (xs ++ ys) ≡ ended_refusals_text plan xs ++ more)
 unfolding ended_refusals_text refusals_text refusals
 refusals-front plan xs ys =
     let front = lines_of-front xs ys in
     (refusal_lines (refusals_after plan (length (accepted_of plan (ended_lines xs))) front.0), rw front.1 (reported_more plan (ended_lines xs) front.0 _ refl))
 
--- a report of a beginning of a stream is a part of that of the whole
-pub part_of_more : (plan : PlanShape) (origin held : Option (List ℕ)) (xs ys : List ℕ) → Appends origin held (ended_refusals_text plan xs) → AppendsPrefix origin held (ended_refusals_text plan (xs ++ ys))
-part_of_more plan origin held xs ys grown =
-    let front = ended_refusals-front plan xs ys in
-    rw front.1 (AppendsPrefix-longer origin held (ended_refusals_text plan xs) front.0 (AppendsPrefix-whole origin held (ended_refusals_text plan xs) grown))
+-- a report that grew, and then stopped, stopped within both
+pub stopped_after : (origin mid new : Paper) (text more whole : List ℕ) → mid ≡ grown origin text → whole ≡ text ++ more → Stops mid new [] more → Stops origin new text whole
+stopped_after origin mid new text more whole first is stopped = elim stopped [
+  | inl same ↦ inl (same ∙ sym (grown_nothing mid) ∙ first)
+  | inr off ↦ inr (refuses_from origin mid new text first off.0, rw is (broken_second origin mid new text more first off.1))
+]
 
-pub part_of_all : (plan : PlanShape) (origin held : Option (List ℕ)) (xs ys : List ℕ) → Appends origin held (ended_refusals_text plan xs) → AppendsPrefix origin held (refusals_text plan (xs ++ ys))
-part_of_all plan origin held xs ys grown =
+-- and one that failed
+pub breaks_after : (origin mid new : Paper) (text more whole : List ℕ) → mid ≡ grown origin text → whole ≡ text ++ more → Breaks mid new more → Breaks origin new whole
+breaks_after origin mid new text more whole first is broken =
+    let counted : mid.faults ≡ origin.faults = ap (λ (p : Paper). p.faults) first in
+    (rw counted at broken.0, rw is (broken_second origin mid new text more first broken.1))
+
+-- a report that was broken off within what a beginning reports was broken off within what all reports
+pub broken_within : (plan : PlanShape) (origin new : Paper) (xs ys : List ℕ) → BreaksOff origin new (ended_refusals_text plan xs) → BreaksOff origin new (refusals_text plan (xs ++ ys))
+broken_within plan origin new xs ys off =
     let front = refusals-front plan xs ys in
-    rw front.1 (AppendsPrefix-longer origin held (ended_refusals_text plan xs) front.0 (AppendsPrefix-whole origin held (ended_refusals_text plan xs) grown))
-
-pub part_of_same : (plan : PlanShape) (origin held : Option (List ℕ)) (stream : List ℕ) → Appends origin held (ended_refusals_text plan stream) → AppendsPrefix origin held (refusals_text plan stream)
-part_of_same plan origin held stream grown = rw (append-nil stream) at (part_of_all plan origin held stream [] grown)
-
--- a part of what is reported of a beginning of a stream is a part of that of the whole
-pub part_longer : (plan : PlanShape) (origin held : Option (List ℕ)) (xs ys : List ℕ) → AppendsPrefix origin held (ended_refusals_text plan xs) → AppendsPrefix origin held (refusals_text plan (xs ++ ys))
-part_longer plan origin held xs ys part =
-    let front = refusals-front plan xs ys in
-    rw front.1 (AppendsPrefix-longer origin held (ended_refusals_text plan xs) front.0 part)
+    rw front.1 (broken_first origin new (ended_refusals_text plan xs) front.0 off)
 
 -- a piece more was taken
 pub piece_taken : (plan : PlanShape) (stream piece : List ℕ) (was fed now : Cutting) (old new : Rows) (before next : ℕ) → IsTakenTo plan stream was old before →

@@ -1,14 +1,15 @@
 -- What is reported of the refused lines of an input, and how far an input was taken (this product's own).
-use Rattle.std.specs.Prelude.{◌≡◌, ◌≤◌, ℕ, ◌-◌, false, List, [], ◌∷◌, ◌++◌, length, take, codes, decimal}
+use Rattle.std.specs.Prelude.{◌≡◌, ◌≤◌, ◌⊎◌, ℕ, ◌-◌, false, List, [], ◌∷◌, ◌++◌, length, take, codes, decimal}
+use Rattle.qna_edges.specs.Count.{Rose}
+use Rattle.qna_edges.specs.Paper.{Paper, grown, WasRefused, BreaksOff}
 use Rattle.line_form.specs.Lines.{TextLine, Cutting, IsCutOf, ended_lines}
 use Rattle.series_tables.specs.Plan.{PlanShape}
-use Rattle.series_tables.specs.LastValue.{last_value}
-use Rattle.series_tables.specs.Cells.{Rows, cell}
-use Rattle.series_tables.specs.declared.input.Kind.{Kind}
+use Rattle.series_tables.specs.Cells.{Rows}
 use Rattle.std.specs.List.{filter_map}
 use Rattle.series_tables.specs.declared.input.Input.{Input}
 use Rattle.input_rules.specs.Accepted.{RefusedLine, most_inputs, judged_lines, taken, accepted_of, refusals_of, refusals}
 use Rattle.input_rules.specs.Lines.{cause_text}
+use Rattle.qna_parts.specs.Making.{HoldsLast}
 
 -- the most bytes of an input
 abbrev pub most_bytes : ℕ
@@ -38,7 +39,7 @@ accepted_after plan before lines = take (most_inputs - before) (filter_map taken
 -- so many inputs were accepted of these lines, and the tables hold the last value of each kind, leaf and period of them
 pub record HasTaken (plan : PlanShape) (lines : List TextLine) (rows : Rows) (count : ℕ) : Type 0 where
   pub counted : count ≡ length (accepted_of plan lines)
-  pub cells : (kind : Kind) (leaf period : ℕ) → cell rows kind leaf period ≡ last_value (accepted_of plan lines) kind leaf period
+  pub cells : HoldsLast rows (accepted_of plan lines)
 
 -- an input was taken as far as this beginning of it goes: the lines that line feeds end
 pub record IsTakenTo (plan : PlanShape) (stream : List ℕ) (lines : Cutting) (rows : Rows) (count : ℕ) : Type 0 where
@@ -52,3 +53,11 @@ pub record IsReady (plan : PlanShape) (lines : Cutting) (rows : Rows) (count : �
   pub goes_on : lines.ended ≡ false
   pub none_waits : lines.waiting ≡ []
   pub all_written : unwritten ≡ []
+
+-- a report stopped: it has what was whole before and no more, or it refused a write, and is broken off within a text
+abbrev pub Stops : Paper → Paper → List ℕ → List ℕ → Type 0
+Stops old new before text = (new ≡ grown old before) ⊎ (WasRefused old new × BreaksOff old new text)
+
+-- a report failed: its count rose, and it is broken off within a text
+abbrev pub Breaks : Paper → Paper → List ℕ → Type 0
+Breaks old new text = Rose old.faults new.faults × BreaksOff old new text

@@ -1,15 +1,18 @@
 //! An input, taken line by line as its bytes come.
 
-ghost use Rattle.std.specs.Prelude.{◌≡◌, ◌≢◌, ◌<◌, ◌≤◌, ◌+◌, ◌-◌, ◌++◌, [], Some, ℕ, List, Option, IsSome, length, take, IfOk, OnOk, IfErr, IfSome, IsErrOf};
-ghost use Rattle.std.specs.Io.KnownBytes.{Appends};
+ghost use Rattle.std.specs.Prelude.{◌≡◌, ◌≢◌, ◌<◌, ◌≤◌, ◌+◌, ◌-◌, ◌++◌, ◌⊎◌, [], Some, ℕ, List, length, take};
+ghost use Rattle.std.specs.Prelude.{IfOk, OnOk, OnErr, IfErr, IsErrOf};
 ghost use Rattle.qna_edges.specs.Count.{Rose};
-ghost use Rattle.qna_edges.specs.Told.{AppendsPrefix};
+ghost use Rattle.qna_edges.specs.Paper.{Paper, grown, BreaksOff, Writes};
+ghost use Rattle.qna_edges.specs.Stock.{OnLeft, OnLeftAndRest, WasRead};
 ghost use Rattle.line_form.specs.Lines.{TextLine, IsCutOf, lines_of};
 ghost use Rattle.series_tables.specs.LastValue.{last_from};
 ghost use Rattle.series_tables.specs.Cells.{cell};
 ghost use Rattle.series_tables.specs.declared.input.Kind.{Kind as KindOf};
 ghost use Rattle.input_rules.specs.Accepted.{refusals_after};
-ghost use Rattle.qna_parts.specs.Intake.{most_bytes, refusal_lines, accepted_after, HasTaken, IsTakenTo, IsReady, refusals_text, ended_refusals_text};
+ghost use Rattle.qna_parts.specs.Intake.{Stops, Breaks, most_bytes, refusal_lines, accepted_after};
+ghost use Rattle.qna_parts.specs.Intake.{HasTaken, IsTakenTo, IsReady, refusals_text, ended_refusals_text};
+ghost use Rattle.qna_parts.specs.Report.{ReportsFirst};
 ghost use Rattle.qna_parts.specs.Faults.{untaken_of};
 ghost use Rattle.qna_parts.specs.declared.intake.Untaken.TheVariants.{Memory as WantOfMemory};
 
@@ -76,10 +79,11 @@ struct Intake {
     refused: Vec<u8>,
 }
 
-/// Takes an input to its end: its lines as they are ended, the inputs that they give, and a report line for each refused line, which is written before more
-/// of the input is read.
+/// Takes an input to its end: its lines as they are ended, the inputs that they give, and a report line for each
+/// refused line, which is written before more of the input is read.
 ///
-/// An input of more than 2^30 bytes is taken as far as that, and no further.
+/// An input of more than 2^30 bytes is taken as far as that, and no further. `TooMuch` is then the answer also where
+/// the report failed; only want of memory comes before it.
 pub fn take_input<S: Source, R: Sink>(
     alloc: Global,
     plan: &Plan,
@@ -88,20 +92,34 @@ pub fn take_input<S: Source, R: Sink>(
 ) -> Result<Taken, Untaken>
     ensures leaves { IfOk result (λ taken. taken.tables.leaves ≡ length plan.now.names) }
     ensures few { IfOk result (λ taken. taken.accepted ≤ 262144) }
-    ensures taken { IfOk result (λ taken. IfSome (S.left source.old) (λ text. HasTaken plan.now (lines_of text) taken.tables taken.accepted)) }
-    ensures reported { OnOk result (IfSome (S.left source.old) (λ text. Appends (R.held report.old) (R.held report.new) (refusals_text plan.now text))) }
-    ensures ended { OnOk result (IfSome (S.left source.old) (λ text. S.left source.new ≡ Some [])) }
-    ensures within { OnOk result (IfSome (S.left source.old) (λ text. length text ≤ most_bytes)) }
-    ensures read { IsErrOf result Untaken.Read → IfSome (S.left source.old) (λ text. IfSome (S.left source.new) (λ rest. Appends (R.held report.old) (R.held report.new) (ended_refusals_text plan.now (take (length text - length rest) text)))) }
-    ensures too_much { IsErrOf result Untaken.TooMuch → IfSome (S.left source.old) (λ text. IfSome (S.left source.new) (λ rest. most_bytes + length rest < length text)) }
-    ensures too_much_reported { IsErrOf result Untaken.TooMuch → IfSome (S.left source.old) (λ text. Appends (R.held report.old) (R.held report.new) (ended_refusals_text plan.now (take most_bytes text))) }
-    ensures partly { IfSome (S.left source.old) (λ text. AppendsPrefix (R.held report.old) (R.held report.new) (refusals_text plan.now text)) }
-    ensures read_failed { IsErrOf result Untaken.Read → Rose (S.faults source.old) (S.faults source.new) }
-    ensures report_failed { IsErrOf result Untaken.Report → Rose (R.faults report.old) (R.faults report.new) }
-    ensures still_told { IfSome (S.left source.old) (λ text. IsSome (S.left source.new)) }
-    ensures source_later { S.faults source.old ≤ S.faults source.new }
-    ensures report_later { R.faults report.old ≤ R.faults report.new }
-    ensures source_name { S.name source.new ≡ S.name source.old }
+    ensures taken { IfOk result (λ taken. OnLeft (S.stock source.old) (λ text.
+        HasTaken plan.now (lines_of text) taken.tables taken.accepted)) }
+    ensures reported { OnOk result (OnLeft (S.stock source.old) (λ text.
+        R.paper report.new ≡ grown (R.paper report.old) (refusals_text plan.now text))) }
+    ensures ended { OnOk result (OnLeft (S.stock source.old) (λ text.
+        (length text ≤ most_bytes) × ((S.stock source.new).left ≡ Some []))) }
+    ensures read { IsErrOf result Untaken.Read →
+        OnLeftAndRest (S.stock source.old) (S.stock source.new) (λ text rest.
+        R.paper report.new ≡ grown (R.paper report.old)
+        (ended_refusals_text plan.now (take (length text - length rest) text))) }
+    ensures read_failed { IsErrOf result Untaken.Read →
+        Rose (S.stock source.old).faults (S.stock source.new).faults }
+    ensures passed { IsErrOf result Untaken.TooMuch →
+        OnLeftAndRest (S.stock source.old) (S.stock source.new) (λ text rest.
+        most_bytes + length rest < length text) }
+    ensures passed_reported { IsErrOf result Untaken.TooMuch → OnLeft (S.stock source.old) (λ text.
+        Writes (R.paper report.old) (R.paper report.new)
+        (ended_refusals_text plan.now (take most_bytes text))) }
+    ensures report { IsErrOf result Untaken.Report → OnLeft (S.stock source.old) (λ text.
+        BreaksOff (R.paper report.old) (R.paper report.new) (refusals_text plan.now text)) }
+    ensures report_failed { IsErrOf result Untaken.Report →
+        Rose (R.paper report.old).faults (R.paper report.new).faults }
+    ensures within { IsErrOf result Untaken.Read ⊎ IsErrOf result Untaken.Report →
+        OnLeftAndRest (S.stock source.old) (S.stock source.new) (λ text rest.
+        length text ≤ most_bytes + length rest) }
+    ensures memory { IsErrOf result Untaken.Memory → OnLeft (S.stock source.old) (λ text.
+        ReportsFirst plan.now (R.paper report.old) (R.paper report.new) text) }
+    ensures only { WasRead (S.stock source.old) (S.stock source.new) }
 {
     let mut intake = begin(alloc, plan)?;
     let mut buffer = [0; PIECE];
@@ -117,10 +135,11 @@ pub fn take_input<S: Source, R: Sink>(
             }
             Ok(count) => {
                 let fits = count.min(MOST_BYTES - size);
-                take_piece(alloc, plan, &buffer[..fits], &mut intake, report)?;
+                let taken = take_piece(alloc, plan, &buffer[..fits], &mut intake, report);
                 if fits < count {
-                    return Err(Untaken::TooMuch);
+                    return Err(passed_limit(taken));
                 }
+                taken?;
                 size += count;
             }
             Err(Failed) => return Err(Untaken::Read),
@@ -128,10 +147,24 @@ pub fn take_input<S: Source, R: Sink>(
     }
 }
 
+/// Why an input that passes its limit isn't taken: for want of memory, or else for its size, also where the report failed.
+fn passed_limit(taken: Result<(), Untaken>) -> Untaken
+    ensures memory { result ≡ Untaken.Memory → IsErrOf taken Untaken.Memory }
+    ensures size { result ≡ Untaken.TooMuch → IfErr taken (λ untaken. untaken ≢ Untaken.Memory) }
+    ensures ends { (result ≡ Untaken.Memory) ⊎ (result ≡ Untaken.TooMuch) }
+{
+    match taken {
+        Err(Untaken::Memory) => Untaken::Memory,
+        _ => Untaken::TooMuch,
+    }
+}
+
 /// An input of which nothing was taken.
 fn begin(alloc: Global, plan: &Plan) -> Result<Intake, Memory>
-    ensures ready { IfOk result (λ intake. IsReady plan.now intake.lines intake.tables intake.accepted intake.refused.items) }
-    ensures taken { IfOk result (λ intake. IsTakenTo plan.now [] intake.lines intake.tables intake.accepted) }
+    ensures ready { IfOk result (λ intake.
+        IsReady plan.now intake.lines intake.tables intake.accepted intake.refused.items) }
+    ensures taken { IfOk result (λ intake.
+        IsTakenTo plan.now [] intake.lines intake.tables intake.accepted) }
 {
     Ok(Intake {
         lines: Lines::new(alloc)?,
@@ -149,14 +182,35 @@ fn take_piece<R: Sink>(
     intake: &mut Intake,
     report: &mut R,
 ) -> Result<(), Untaken>
-    requires ready { IsReady plan.now intake.old.lines intake.old.tables intake.old.accepted intake.old.refused.items }
-    ensures ready { OnOk result (IsReady plan.now intake.new.lines intake.new.tables intake.new.accepted intake.new.refused.items) }
-    ensures taken { (stream : List ℕ) → IsTakenTo plan.now stream intake.old.lines intake.old.tables intake.old.accepted → OnOk result (IsTakenTo plan.now (stream ++ piece.now) intake.new.lines intake.new.tables intake.new.accepted) }
-    ensures reported { (stream : List ℕ) (origin : Option (List ℕ)) → IsTakenTo plan.now stream intake.old.lines intake.old.tables intake.old.accepted → Appends origin (R.held report.old) (ended_refusals_text plan.now stream) → OnOk result (Appends origin (R.held report.new) (ended_refusals_text plan.now (stream ++ piece.now))) }
-    ensures partly { (stream : List ℕ) (origin : Option (List ℕ)) → IsTakenTo plan.now stream intake.old.lines intake.old.tables intake.old.accepted → Appends origin (R.held report.old) (ended_refusals_text plan.now stream) → AppendsPrefix origin (R.held report.new) (ended_refusals_text plan.now (stream ++ piece.now)) }
-    ensures failed { IsErrOf result Untaken.Report → Rose (R.faults report.old) (R.faults report.new) }
-    ensures others { IfErr result (λ untaken. (untaken ≢ Untaken.Read) × (untaken ≢ Untaken.TooMuch)) }
-    ensures later { R.faults report.old ≤ R.faults report.new }
+    requires ready { IsReady plan.now
+        intake.old.lines intake.old.tables intake.old.accepted intake.old.refused.items }
+    ensures ready { OnOk result (IsReady plan.now
+        intake.new.lines intake.new.tables intake.new.accepted intake.new.refused.items) }
+    ensures taken { (stream : List ℕ)
+        → IsTakenTo plan.now stream intake.old.lines intake.old.tables intake.old.accepted
+        → OnOk result (IsTakenTo plan.now (stream ++ piece.now)
+        intake.new.lines intake.new.tables intake.new.accepted) }
+    ensures reported { (stream : List ℕ) (origin : Paper)
+        → IsTakenTo plan.now stream intake.old.lines intake.old.tables intake.old.accepted
+        → R.paper report.old ≡ grown origin (ended_refusals_text plan.now stream)
+        → OnOk result (R.paper report.new ≡ grown origin
+        (ended_refusals_text plan.now (stream ++ piece.now))) }
+    ensures stops { (stream : List ℕ) (origin : Paper)
+        → IsTakenTo plan.now stream intake.old.lines intake.old.tables intake.old.accepted
+        → R.paper report.old ≡ grown origin (ended_refusals_text plan.now stream)
+        → OnErr result (Stops origin (R.paper report.new)
+        (ended_refusals_text plan.now stream)
+        (ended_refusals_text plan.now (stream ++ piece.now))) }
+    ensures report { (stream : List ℕ) (origin : Paper)
+        → IsTakenTo plan.now stream intake.old.lines intake.old.tables intake.old.accepted
+        → R.paper report.old ≡ grown origin (ended_refusals_text plan.now stream)
+        → IsErrOf result Untaken.Report → Breaks origin (R.paper report.new)
+        (ended_refusals_text plan.now (stream ++ piece.now)) }
+    ensures failed { IsErrOf result Untaken.Report →
+        Rose (R.paper report.old).faults (R.paper report.new).faults }
+    ensures others { IfErr result (λ untaken.
+        (untaken ≢ Untaken.Read) × (untaken ≢ Untaken.TooMuch)) }
+    ensures later { (R.paper report.old).faults ≤ (R.paper report.new).faults }
 {
     intake.lines.feed(piece)?;
     take_lines(alloc, plan, intake, report)
@@ -169,21 +223,40 @@ fn take_end<R: Sink>(
     intake: &mut Intake,
     report: &mut R,
 ) -> Result<(), Untaken>
-    requires ready { IsReady plan.now intake.old.lines intake.old.tables intake.old.accepted intake.old.refused.items }
+    requires ready { IsReady plan.now
+        intake.old.lines intake.old.tables intake.old.accepted intake.old.refused.items }
     ensures leaves { intake.new.tables.leaves ≡ length plan.now.names }
     ensures few { OnOk result (intake.new.accepted ≤ 262144) }
-    ensures taken { (stream : List ℕ) → IsTakenTo plan.now stream intake.old.lines intake.old.tables intake.old.accepted → OnOk result (HasTaken plan.now (lines_of stream) intake.new.tables intake.new.accepted) }
-    ensures reported { (stream : List ℕ) (origin : Option (List ℕ)) → IsTakenTo plan.now stream intake.old.lines intake.old.tables intake.old.accepted → Appends origin (R.held report.old) (ended_refusals_text plan.now stream) → OnOk result (Appends origin (R.held report.new) (refusals_text plan.now stream)) }
-    ensures partly { (stream : List ℕ) (origin : Option (List ℕ)) → IsTakenTo plan.now stream intake.old.lines intake.old.tables intake.old.accepted → Appends origin (R.held report.old) (ended_refusals_text plan.now stream) → AppendsPrefix origin (R.held report.new) (refusals_text plan.now stream) }
-    ensures failed { IsErrOf result Untaken.Report → Rose (R.faults report.old) (R.faults report.new) }
-    ensures others { IfErr result (λ untaken. (untaken ≢ Untaken.Read) × (untaken ≢ Untaken.TooMuch)) }
-    ensures later { R.faults report.old ≤ R.faults report.new }
+    ensures taken { (stream : List ℕ)
+        → IsTakenTo plan.now stream intake.old.lines intake.old.tables intake.old.accepted
+        → OnOk result (HasTaken plan.now (lines_of stream)
+        intake.new.tables intake.new.accepted) }
+    ensures reported { (stream : List ℕ) (origin : Paper)
+        → IsTakenTo plan.now stream intake.old.lines intake.old.tables intake.old.accepted
+        → R.paper report.old ≡ grown origin (ended_refusals_text plan.now stream)
+        → OnOk result (R.paper report.new ≡ grown origin (refusals_text plan.now stream)) }
+    ensures stops { (stream : List ℕ) (origin : Paper)
+        → IsTakenTo plan.now stream intake.old.lines intake.old.tables intake.old.accepted
+        → R.paper report.old ≡ grown origin (ended_refusals_text plan.now stream)
+        → OnErr result (Stops origin (R.paper report.new)
+        (ended_refusals_text plan.now stream) (refusals_text plan.now stream)) }
+    ensures report { (stream : List ℕ) (origin : Paper)
+        → IsTakenTo plan.now stream intake.old.lines intake.old.tables intake.old.accepted
+        → R.paper report.old ≡ grown origin (ended_refusals_text plan.now stream)
+        → IsErrOf result Untaken.Report →
+        Breaks origin (R.paper report.new) (refusals_text plan.now stream) }
+    ensures failed { IsErrOf result Untaken.Report →
+        Rose (R.paper report.old).faults (R.paper report.new).faults }
+    ensures others { IfErr result (λ untaken.
+        (untaken ≢ Untaken.Read) × (untaken ≢ Untaken.TooMuch)) }
+    ensures later { (R.paper report.old).faults ≤ (R.paper report.new).faults }
 {
     intake.lines.finish()?;
     take_lines(alloc, plan, intake, report)
 }
 
 /// Takes the lines that wait, and writes the report lines of those that are refused.
+#[tactic(auto, using(qna_edges::proofs::Paper::told_of, qna_edges::proofs::Paper::stopping))]
 fn take_lines<R: Sink>(
     alloc: Global,
     plan: &Plan,
@@ -196,16 +269,30 @@ fn take_lines<R: Sink>(
     ensures leaves { intake.new.tables.leaves ≡ intake.old.tables.leaves }
     ensures few { OnOk result (intake.new.accepted ≤ 262144) }
     ensures nothing_kept { OnOk result (intake.new.refused.items ≡ []) }
-    ensures count { OnOk result (intake.new.accepted ≡ intake.old.accepted + length (accepted_after plan.now intake.old.accepted intake.old.lines.waiting)) }
-    ensures cells { OnOk result ((kind : KindOf) (leaf period : ℕ) → cell intake.new.tables kind leaf period ≡ last_from (cell intake.old.tables kind leaf period) (accepted_after plan.now intake.old.accepted intake.old.lines.waiting) kind leaf period) }
-    ensures reported { OnOk result (Appends (R.held report.old) (R.held report.new) (refusal_lines (refusals_after plan.now intake.old.accepted intake.old.lines.waiting))) }
-    ensures partly { AppendsPrefix (R.held report.old) (R.held report.new) (refusal_lines (refusals_after plan.now intake.old.accepted intake.old.lines.waiting)) }
+    ensures count { OnOk result (intake.new.accepted ≡ intake.old.accepted
+        + length (accepted_after plan.now intake.old.accepted intake.old.lines.waiting)) }
+    ensures cells { OnOk result ((kind : KindOf) (leaf period : ℕ)
+        → cell intake.new.tables kind leaf period
+        ≡ last_from (cell intake.old.tables kind leaf period)
+        (accepted_after plan.now intake.old.accepted intake.old.lines.waiting)
+        kind leaf period) }
+    ensures reported { OnOk result (R.paper report.new ≡ grown (R.paper report.old)
+        (refusal_lines (refusals_after plan.now intake.old.accepted intake.old.lines.waiting))) }
+    ensures stops { OnErr result (Stops (R.paper report.old) (R.paper report.new) []
+        (refusal_lines (refusals_after plan.now intake.old.accepted intake.old.lines.waiting))) }
+    ensures report { IsErrOf result Untaken.Report →
+        Breaks (R.paper report.old) (R.paper report.new)
+        (refusal_lines (refusals_after plan.now intake.old.accepted intake.old.lines.waiting)) }
     ensures none_waits { OnOk result (intake.new.lines.waiting ≡ []) }
-    ensures cut { OnOk result ((stream : List ℕ) (handed : List TextLine) → IsCutOf intake.old.lines stream handed → IsCutOf intake.new.lines stream (handed ++ intake.old.lines.waiting)) }
+    ensures cut { OnOk result ((stream : List ℕ) (handed : List TextLine)
+        → IsCutOf intake.old.lines stream handed
+        → IsCutOf intake.new.lines stream (handed ++ intake.old.lines.waiting)) }
     ensures ended { intake.new.lines.ended ≡ intake.old.lines.ended }
-    ensures failed { IsErrOf result Untaken.Report → Rose (R.faults report.old) (R.faults report.new) }
-    ensures others { IfErr result (λ untaken. (untaken ≢ Untaken.Read) × (untaken ≢ Untaken.TooMuch)) }
-    ensures later { R.faults report.old ≤ R.faults report.new }
+    ensures failed { IsErrOf result Untaken.Report →
+        Rose (R.paper report.old).faults (R.paper report.new).faults }
+    ensures others { IfErr result (λ untaken.
+        (untaken ≢ Untaken.Read) × (untaken ≢ Untaken.TooMuch)) }
+    ensures later { (R.paper report.old).faults ≤ (R.paper report.new).faults }
 {
     intake.accepted = take_waiting(
         alloc,

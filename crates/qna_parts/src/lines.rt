@@ -20,8 +20,8 @@ use std::alloc::Global;
 /// The most accepted inputs.
 const MOST_INPUTS: u64 = 262_144;
 
-/// Takes what the lines that wait give: their inputs into the tables, and a report line for each refused one. Answers how many inputs are accepted
-/// then, of those before and these. After want of memory some of the lines were taken.
+/// Takes what the lines that wait give: their inputs into the tables, and a report line for each refused one. Answers
+/// how many inputs are accepted then, of those before and these. After want of memory some of the lines were taken.
 pub fn take_waiting(
     alloc: Global,
     plan: &Plan,
@@ -34,11 +34,18 @@ pub fn take_waiting(
     requires few { accepted ≤ 262144 }
     ensures leaves { tables.new.leaves ≡ tables.old.leaves }
     ensures few { IfOk result (λ count. count ≤ 262144) }
-    ensures count { IfOk result (λ count. count ≡ accepted + length (accepted_after plan.now accepted lines.old.waiting)) }
-    ensures cells { OnOk result ((kind : KindOf) (leaf period : ℕ) → cell tables.new kind leaf period ≡ last_from (cell tables.old kind leaf period) (accepted_after plan.now accepted lines.old.waiting) kind leaf period) }
-    ensures reported { OnOk result (refused.new.items ≡ refused.old.items ++ refusal_lines (refusals_after plan.now accepted lines.old.waiting)) }
+    ensures count { IfOk result (λ count.
+        count ≡ accepted + length (accepted_after plan.now accepted lines.old.waiting)) }
+    ensures cells { OnOk result ((kind : KindOf) (leaf period : ℕ)
+        → cell tables.new kind leaf period
+        ≡ last_from (cell tables.old kind leaf period)
+        (accepted_after plan.now accepted lines.old.waiting) kind leaf period) }
+    ensures reported { OnOk result (refused.new.items
+        ≡ refused.old.items ++ refusal_lines (refusals_after plan.now accepted lines.old.waiting)) }
     ensures none_waits { OnOk result (lines.new.waiting ≡ []) }
-    ensures cut { OnOk result ((stream : List ℕ) (handed : List TextLine) → IsCutOf lines.old stream handed → IsCutOf lines.new stream (handed ++ lines.old.waiting)) }
+    ensures cut { OnOk result ((stream : List ℕ) (handed : List TextLine)
+        → IsCutOf lines.old stream handed
+        → IsCutOf lines.new stream (handed ++ lines.old.waiting)) }
     ensures ended { lines.new.ended ≡ lines.old.ended }
 {
     let mut count = accepted;
@@ -49,7 +56,8 @@ pub fn take_waiting(
     Ok(count)
 }
 
-/// Takes what was said of a line, where so many inputs were accepted before it: its input, or a report line. Answers how many are accepted then.
+/// Takes what was said of a line, where so many inputs were accepted before it: its input, or a report line. Answers
+/// how many are accepted then.
 #[tactic(auto, unfolding(crate::specs::Intake::refusal_lines))]
 fn take_judged(
     judged: Judged,
@@ -62,9 +70,15 @@ fn take_judged(
     requires fits { IfSome (taken judged) (IsFitting tables.old.leaves) }
     ensures leaves { tables.new.leaves ≡ tables.old.leaves }
     ensures few { IfOk result (λ count. count ≤ 262144) }
-    ensures count { IfOk result (λ count. count ≡ accepted + length (option_to_list (accepted_next accepted judged))) }
-    ensures cells { OnOk result ((kind : KindOf) (leaf period : ℕ) → cell tables.new kind leaf period ≡ last_from (cell tables.old kind leaf period) (option_to_list (accepted_next accepted judged)) kind leaf period) }
-    ensures reported { OnOk result (refused.new.items ≡ refused.old.items ++ refusal_lines (option_to_list (refused_next accepted number judged))) }
+    ensures count { IfOk result (λ count.
+        count ≡ accepted + length (option_to_list (accepted_next accepted judged))) }
+    ensures cells { OnOk result ((kind : KindOf) (leaf period : ℕ)
+        → cell tables.new kind leaf period
+        ≡ last_from (cell tables.old kind leaf period)
+        (option_to_list (accepted_next accepted judged)) kind leaf period) }
+    ensures reported { OnOk result (refused.new.items
+        ≡ refused.old.items ++ refusal_lines
+        (option_to_list (refused_next accepted number judged))) }
 {
     match judged {
         Judged::Passed => Ok(accepted),
@@ -87,7 +101,8 @@ fn take_judged(
 /// Adds the report line of a refused line.
 #[tactic(auto, unfolding(crate::specs::Intake::refusal_lines))]
 fn report_refused(refused: &mut Vec<u8>, number: u64, cause: Cause) -> Result<(), Memory>
-    ensures { OnOk result (refused.new.items ≡ refused.old.items ++ refusal_lines (record { number = number; cause = cause } ∷ [])) }
+    ensures { OnOk result (refused.new.items
+        ≡ refused.old.items ++ refusal_lines (record { number = number; cause = cause } ∷ [])) }
 {
     let mut buffer = Buffer::new();
     refused.extend_from_slice(buffer.format(number).as_bytes())?;

@@ -1,8 +1,9 @@
 //! Reading a whole source, or a whole file of a cabinet, up to a limit.
 
-ghost use Rattle.std.specs.Prelude.{◌≡◌, ◌≢◌, ◌<◌, ◌≤◌, ◌+◌, ℕ, IsSome, Some, [], length, List, IsTrue, IfOk, IfSome, OnOk, IfErr, IsErrOf};
+ghost use Rattle.std.specs.Prelude.{◌≡◌, ◌≢◌, ◌<◌, ◌≤◌, ◌+◌, Some, [], length, IfOk, OnOk, IfErr, IsErrOf};
 ghost use Rattle.qna_edges.specs.Count.{Rose};
-ghost use Rattle.qna_edges.specs.Names.{SameAtAll, SameAtOthers, StaysKnown};
+ghost use Rattle.qna_edges.specs.Stock.{OnLeft, OnLeftAndRest, WasRead};
+ghost use Rattle.qna_edges.specs.Shelves.{OnFile, OpenRose, ReadRose, OnlyRead};
 
 use qna_edges::{Cabinet, Failed, Refused, Source};
 use std::alloc::Global;
@@ -22,15 +23,20 @@ pub enum Unread {
 
 /// Reads a source to its end, if it gives no more bytes than a limit.
 pub fn read_all<S: Source>(alloc: Global, source: &mut S, limit: usize) -> Result<Vec<u8>, Unread>
-    ensures text { IfOk result (λ bytes. IfSome (S.left source.old) (λ left. bytes.items ≡ left)) }
-    ensures ended { OnOk result (IfSome (S.left source.old) (λ left. S.left source.new ≡ Some [])) }
+    ensures text { IfOk result (λ bytes. OnLeft (S.stock source.old) (λ text. bytes.items ≡ text)) }
+    ensures ended { OnOk result (OnLeft (S.stock source.old) (λ text.
+        (S.stock source.new).left ≡ Some [])) }
     ensures within { IfOk result (λ bytes. length bytes.items ≤ limit) }
-    ensures too_much { IsErrOf result Unread.TooMuch → IfSome (S.left source.old) (λ left. IfSome (S.left source.new) (λ rest. limit + length rest < length left)) }
-    ensures still_told { IfSome (S.left source.old) (λ left. IsSome (S.left source.new)) }
-    ensures failed { IsErrOf result Unread.Read → Rose (S.faults source.old) (S.faults source.new) }
+    ensures passed { IsErrOf result Unread.TooMuch →
+        OnLeftAndRest (S.stock source.old) (S.stock source.new) (λ text rest.
+        limit + length rest < length text) }
+    ensures read_within { IsErrOf result Unread.Read →
+        OnLeftAndRest (S.stock source.old) (S.stock source.new) (λ text rest.
+        length text ≤ limit + length rest) }
+    ensures failed { IsErrOf result Unread.Read →
+        Rose (S.stock source.old).faults (S.stock source.new).faults }
     ensures opened { IfErr result (λ unread. unread ≢ Unread.Open) }
-    ensures later { S.faults source.old ≤ S.faults source.new }
-    ensures same_name { S.name source.new ≡ S.name source.old }
+    ensures only { WasRead (S.stock source.old) (S.stock source.new) }
 {
     let mut bytes = Vec::new(alloc);
     let mut buffer = [0; 8192];
@@ -57,22 +63,20 @@ pub fn read_file<C: Cabinet>(
     name: &str,
     limit: usize,
 ) -> Result<Vec<u8>, Unread>
-    ensures text { IfOk result (λ bytes. IsTrue (C.tells cabinet.old) → IfSome (C.file cabinet.old name.now) (λ file. bytes.items ≡ file)) }
-    ensures ended { OnOk result (IsTrue (C.tells cabinet.old) → IfSome (C.file cabinet.old name.now) (λ file. C.rest cabinet.new name.now ≡ 0)) }
+    ensures text { IfOk result (λ bytes. OnFile (C.shelves cabinet.old) name.now (λ text.
+        (bytes.items ≡ text) × (((C.shelves cabinet.new).under name.now).rest ≡ 0))) }
     ensures within { IfOk result (λ bytes. length bytes.items ≤ limit) }
-    ensures too_much { IsErrOf result Unread.TooMuch → IsTrue (C.tells cabinet.old) → IfSome (C.file cabinet.old name.now) (λ file. limit + C.rest cabinet.new name.now < length file) }
-    ensures opened { IsErrOf result Unread.Open → Rose (C.open_faults cabinet.old name.now) (C.open_faults cabinet.new name.now) }
-    ensures failed { IsErrOf result Unread.Read → Rose (C.read_faults cabinet.old name.now) (C.read_faults cabinet.new name.now) }
-
-    ensures opens_later { (n : List ℕ) → C.open_faults cabinet.old n ≤ C.open_faults cabinet.new n }
-    ensures reads_later { (n : List ℕ) → C.read_faults cabinet.old n ≤ C.read_faults cabinet.new n }
-    ensures opens { SameAtOthers (C.open_faults cabinet.old) (C.open_faults cabinet.new) name.now }
-    ensures reads { SameAtOthers (C.read_faults cabinet.old) (C.read_faults cabinet.new) name.now }
-    ensures rests { SameAtOthers (C.rest cabinet.old) (C.rest cabinet.new) name.now }
-    ensures creates { SameAtAll (C.create_faults cabinet.old) (C.create_faults cabinet.new) }
-    ensures writes { SameAtAll (C.write_faults cabinet.old) (C.write_faults cabinet.new) }
-    ensures files { SameAtAll (C.file cabinet.old) (C.file cabinet.new) }
-    ensures tells { C.tells cabinet.new ≡ C.tells cabinet.old }
+    ensures passed { IsErrOf result Unread.TooMuch →
+        OnFile (C.shelves cabinet.old) name.now (λ text.
+        limit + ((C.shelves cabinet.new).under name.now).rest < length text) }
+    ensures opened { IsErrOf result Unread.Open →
+        OpenRose (C.shelves cabinet.old) (C.shelves cabinet.new) name.now }
+    ensures read { IsErrOf result Unread.Read →
+        ReadRose (C.shelves cabinet.old) (C.shelves cabinet.new) name.now }
+    ensures read_within { IsErrOf result Unread.Read →
+        OnFile (C.shelves cabinet.old) name.now (λ text.
+        length text ≤ limit + ((C.shelves cabinet.new).under name.now).rest) }
+    ensures only { OnlyRead (C.shelves cabinet.old) (C.shelves cabinet.new) name.now }
 {
     let mut source = match cabinet.open(name) {
         Ok(source) => source,

@@ -1,5 +1,5 @@
-use Rattle.qna_parts.proofs.Written.{AppendsPrefix-two}
+use Rattle.qna_edges.proofs.Paper.{prints_two}
 use Rattle.qna_parts.proofs.status_line.tell.Goals as goal
 
-pub returns-clause-part : goal.returns-clause-part
-returns-clause-part g c = AppendsPrefix-two _ _ _ _ _ _ c.in_ok-write_both.ensures.all c.write_both-2.ensures.part (cc)
+pub returns : goal.returns
+returns g c = prints_two c.write_both-2.result (g.K.Sink.paper c.args.report.now) _ _ _ _ _ c.in_ok-write_both.ensures.ok c.write_both-2.ensures (cc)

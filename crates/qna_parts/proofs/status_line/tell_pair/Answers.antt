@@ -1,5 +1,5 @@
-use Rattle.qna_parts.proofs.Written.{AppendsPrefix-two}
+use Rattle.qna_edges.proofs.Paper.{prints_two}
 use Rattle.qna_parts.proofs.status_line.tell_pair.Goals as goal
 
-pub returns-clause-part : goal.returns-clause-part
-returns-clause-part g c = AppendsPrefix-two _ _ _ _ _ _ c.in_ok-write_both.ensures.all c.tell.ensures.part (cc)
+pub returns : goal.returns
+returns g c = prints_two c.tell.result (g.K.Sink.paper c.args.report.now) _ _ _ _ _ c.in_ok-write_both.ensures.ok c.tell.ensures (cc)

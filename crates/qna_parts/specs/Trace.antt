@@ -1,0 +1,57 @@
+-- What a command did to one file.
+use Rattle.std.specs.Prelude.{◌≡◌, ℕ, ◌+◌, ◌≤◌, ◌<◌, Bool, IsTrue, List, [], length, codes, IfSome, Some}
+use Rattle.qna_edges.specs.Count.{Rose}
+use Rattle.qna_edges.specs.Paper.{Paper, Writes}
+use Rattle.qna_edges.specs.Shelves.{Shelf, Shelves}
+use Rattle.qna_edges.specs.declared.status.Status.{Status}
+use Rattle.qna_edges.specs.declared.status.Status.TheVariants.{OpenFault, ReadFault, TooMuch}
+use Rattle.qna_parts.specs.StatusLine.{named_line}
+
+-- what a cabinet had under one name before a command, and what it has since
+pub record Trace : Type 0 where
+  pub name : List ℕ
+  -- whether the cabinet tells its bytes
+  pub tells : Bool
+  pub old : Shelf
+  pub new : Shelf
+
+-- the trace of a name
+abbrev pub trace_of : Shelves → Shelves → List ℕ → Trace
+trace_of old new name = record { name = name; tells = old.tells; old = old.under name; new = new.under name }
+
+-- P holds of the bytes that stood there, where the cabinet tells them
+abbrev pub OnText : Trace → (List ℕ → Type 0) → Type 0
+OnText file P = IsTrue file.tells → IfSome file.old.file P
+
+-- a file was read to its end, and is within a limit
+abbrev pub IsReadWhole : ℕ → Trace → Type 0
+IsReadWhole limit file = OnText file (λ text. (length text ≤ limit) × (file.new.rest ≡ 0))
+
+-- a file was opened and read, and nothing else was done to it
+abbrev pub IsOnlyRead : Trace → Type 0
+IsOnlyRead file =
+    file.new ≡ record file.old { opens = file.new.opens; reads = file.new.reads; rest = file.new.rest }
+
+-- nothing was created there, though the creating may have failed
+abbrev pub IsNotCreated : Trace → Type 0
+IsNotCreated file = file.new ≡ record file.old { creates = file.new.creates }
+
+-- one sink was given for it, and came back
+abbrev pub IsCreatedOnce : Trace → Type 0
+IsCreatedOnce file =
+    file.new ≡ record file.old { given = file.old.given + 1; writes = file.new.writes; file = file.new.file }
+
+-- one sink was given for it, and came back with nothing in it
+pub record IsEmptied (file : Trace) : Type 0 where
+  pub created : IsCreatedOnce file
+  pub empty : IsTrue file.tells → file.new.file ≡ Some []
+
+-- a file wasn't read to its end: why, by a count of its own or by its size, and the line that says so, with its name
+pub record EndsUnread (limit : ℕ) (file : Trace) (before after : Paper) (status : Status) : Type 0 where
+  pub unopened : status ≡ OpenFault →
+      Rose file.old.opens file.new.opens × Writes before after (named_line (codes "open") file.name)
+  pub unread : status ≡ ReadFault →
+      Rose file.old.reads file.new.reads × Writes before after (named_line (codes "read") file.name)
+  pub within : status ≡ ReadFault → OnText file (λ text. length text ≤ limit + file.new.rest)
+  pub too_long : status ≡ TooMuch → Writes before after (named_line (codes "toomuch") file.name)
+  pub passed : status ≡ TooMuch → OnText file (λ text. limit + file.new.rest < length text)
