@@ -1,15 +1,7 @@
 -- What a certificate's document keeps: the shape of its lists and the ranges of its numbers (this product's own).
-use Rattle.std.specs.Prelude.{◌≡◌, ℕ, ◌+◌, ◌*◌, ◌/◌, ◌^◌, ◌≤◌, ℤ, pos, ◌≤ℤ◌, Bool, ◌&&◌, ◌||◌, ◌==◌, nat_le, IsTrue, List, length, slice_index, slice_index_or, unsigned_abs, EachIndex}
-use Rattle.std.specs.List.{list_all}
+use Rattle.std.specs.Prelude.{◌≡◌, ℕ, ◌+◌, ◌*◌, ◌/◌, ◌^◌, ◌≤◌, ℤ, pos, ◌≤ℤ◌, IsTrue, List, length, slice_index, slice_index_or, unsigned_abs, EachIndex}
+use Rattle.line_form.specs.Name.{is_name}
 use Rattle.denton_parts.specs.Year.{IsIndicator, IsBenchmark, IsMultiplier}
-
--- a letter, a digit, `_`, `.` or `-`
-abbrev pub is_name_byte : ℕ → Bool
-is_name_byte byte = (nat_le 48 byte && nat_le byte 57) || (nat_le 65 byte && nat_le byte 90) || (nat_le 97 byte && nat_le byte 122) || byte == 95 || byte == 46 || byte == 45
-
--- a name: 1 to 32 such bytes
-abbrev pub is_name : List ℕ → Bool
-is_name name = nat_le 1 (length name) && nat_le (length name) 32 && list_all is_name_byte name
 
 -- a quarter's value is within 10^16 times its indicator, at the scale 10^k
 abbrev pub IsQuarterValue : ℕ → ℕ → ℤ → Type 0

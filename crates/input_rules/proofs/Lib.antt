@@ -1,2 +1,3 @@
+pub mod AcceptedInputs
 pub mod Fitting
 pub mod MoreLines

@@ -6,7 +6,9 @@ mod lines;
 mod requests;
 
 pub use judging::{RawInput, Refusal, judge, judge_input, leaf_with_name};
-pub use lines::{Cause, Judged, cause_of, each_line_counts_once, judge_line, lines_go_on};
+pub use lines::{
+    Cause, Judged, accepted_inputs_fit, cause_of, each_line_counts_once, judge_line, lines_go_on,
+};
 pub use requests::{LineInput, Request, line_fields, read_request};
 
 #[cfg(test)]

@@ -1,12 +1,12 @@
 // What is said of the lines of an input.
 
-ghost use Rattle.std.specs.Prelude.{◌≡◌, ◌≤◌, ◌+◌, ◌++◌, ◌∷◌, [], List, length, count_by, IfOk, IfSome};
+ghost use Rattle.std.specs.Prelude.{◌≡◌, ◌≤◌, ◌+◌, ◌++◌, ◌∷◌, [], ℕ, List, All, length, count_by, IfOk, IfSome};
 ghost use Rattle.std.specs.Option.{option_to_list};
 ghost use Rattle.series_tables.specs.Plan.{PlanShape};
 ghost use Rattle.series_tables.specs.Fits.{FitsPlan};
 ghost use Rattle.line_form.specs.Lines.{TextLine, line_view};
 ghost use Rattle.input_rules.specs.Lines.{cause_text, cause_of as cause_of_refusal, judged_input, judged_request, judged_line};
-ghost use Rattle.input_rules.specs.Accepted.{most_inputs, judged_lines, is_passed, taken, accepted_of, accepted_next, refused_next, refusals_of};
+ghost use Rattle.input_rules.specs.Accepted.{most_inputs, judged_lines, is_passed, taken, accepted, accepted_of, accepted_next, refused_next, refusals_of};
 ghost use Rattle.input_rules.specs.Views.{request_view};
 
 use crate::judging::{Refusal, judge_input};
@@ -91,6 +91,11 @@ pub fn each_line_counts_once()
         ≡ length lines }
     ensures few { (plan : PlanShape) (lines : List TextLine) →
         length (accepted_of plan lines) ≤ most_inputs }
+{}
+
+/// Each input that is accepted of a stream fits the plan.
+pub fn accepted_inputs_fit()
+    ensures { (plan : PlanShape) (text : List ℕ) → All (FitsPlan plan) (accepted plan text) }
 {}
 
 /// One line more adds what it gives to the accepted inputs and to the refused lines of those before it.
