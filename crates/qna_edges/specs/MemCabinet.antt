@@ -54,6 +54,10 @@ Knows cabinet name = IsTrue (has_room cabinet.tally name) × IsTrue (has_drawer 
 abbrev pub calls_of : MemCabinet → ℕ
 calls_of cabinet = cabinet.calls
 
+-- how many sources and sinks are out
+abbrev pub out_of : MemCabinet → ℕ
+out_of cabinet = cabinet.out
+
 -- the numbers of the calls of `open` and `create` that fail
 abbrev pub fails_of : MemCabinet → List ℕ
 fails_of cabinet = cabinet.fails.items

@@ -33,7 +33,7 @@ pub struct MemCabinet {
 
 impl MemCabinet {
     ghost use Rattle.qna_edges.specs.Tally.{nothing_counted};
-    ghost use Rattle.qna_edges.specs.MemCabinet.{drawer_of, has_drawer, file_of, bytes_of, plan_of, rest_of, counted_of, calls_of, fails_of, Knows, opened, created};
+    ghost use Rattle.qna_edges.specs.MemCabinet.{drawer_of, has_drawer, file_of, bytes_of, plan_of, rest_of, counted_of, calls_of, out_of, fails_of, Knows, opened, created};
 
     /// A cabinet without files, none of whose calls is to fail.
     pub fn new(alloc: Global) -> MemCabinet
@@ -42,6 +42,7 @@ impl MemCabinet {
         ensures rests { (n : List ℕ) → rest_of result n ≡ 0 }
         ensures counts { (n : List ℕ) → counted_of result n ≡ nothing_counted }
         ensures calls { calls_of result ≡ 0 }
+        ensures out { out_of result ≡ 0 }
         ensures fails { fails_of result ≡ [] }
     {
         MemCabinet {
@@ -67,6 +68,7 @@ impl MemCabinet {
         ensures counts { SameAtAll (counted_of self.old) (counted_of self.new) }
         ensures stays_known { StaysKnown (Knows self.old) (Knows self.new) }
         ensures calls { calls_of self.new ≡ calls_of self.old }
+        ensures out { out_of self.new ≡ out_of self.old }
         ensures fails { fails_of self.new ≡ fails_of self.old }
     {
         self.place(name)?;
@@ -90,6 +92,7 @@ impl MemCabinet {
         ensures counts { SameAtAll (counted_of self.old) (counted_of self.new) }
         ensures stays_known { StaysKnown (Knows self.old) (Knows self.new) }
         ensures calls { calls_of self.new ≡ calls_of self.old }
+        ensures out { out_of self.new ≡ out_of self.old }
         ensures fails { fails_of self.new ≡ fails_of self.old }
     {
         self.place(name)?;
@@ -103,6 +106,7 @@ impl MemCabinet {
     pub fn fail_opens(&mut self, calls: Vec<u64>)
         ensures fails { fails_of self.new ≡ calls.items }
         ensures calls { calls_of self.new ≡ calls_of self.old }
+        ensures out { out_of self.new ≡ out_of self.old }
         ensures drawers { SameAtAll (drawer_of self.old) (drawer_of self.new) }
         ensures counts { SameAtAll (counted_of self.old) (counted_of self.new) }
         ensures stays_known { StaysKnown (Knows self.old) (Knows self.new) }
