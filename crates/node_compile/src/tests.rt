@@ -29,8 +29,8 @@ struct Row<'a> {
 
 // Puts a value of a leaf into its cell, where it is in range.
 fn set(tables: &mut Tables, leaf: u16, kind: Kind, period: usize, value: i64)
-    requires leaf { leaf < tables.old.leaves }
-    ensures { tables.new.leaves ≡ tables.old.leaves }
+    requires leaf { leaf < tables.old.items }
+    ensures { tables.new.items ≡ tables.old.items }
 {
     let fits = match kind {
         Kind::Benchmark => period < 64 && -1000000000000 <= value && value <= 1000000000000,
@@ -48,8 +48,8 @@ fn set(tables: &mut Tables, leaf: u16, kind: Kind, period: usize, value: i64)
 
 // Puts what is sent for a leaf into its cells.
 fn send(tables: &mut Tables, leaf: u16, sent: Sent)
-    requires { leaf < tables.old.leaves }
-    ensures { tables.new.leaves ≡ tables.old.leaves }
+    requires { leaf < tables.old.items }
+    ensures { tables.new.items ≡ tables.old.items }
 {
     for (period, value) in sent.indicators.iter().enumerate() {
         set(tables, leaf, Kind::Indicator, period, *value);
@@ -66,7 +66,7 @@ fn send(tables: &mut Tables, leaf: u16, sent: Sent)
 
 // The tables of a plan once this is sent for its items, from the first on.
 fn tables_of(alloc: Global, plan: &Plan, items: &[Sent]) -> Result<Tables, Memory>
-    ensures { IfOk result (λ tables. tables.leaves ≡ length plan.now.names) }
+    ensures { IfOk result (λ tables. tables.items ≡ length plan.now.names) }
 {
     let mut tables = Tables::new(alloc, plan)?;
     for (item, sent) in items.iter().enumerate() {
@@ -277,8 +277,8 @@ fn table_after<L: Ledger>(
     sent: Sent,
     steps: &mut Steps<L>,
 ) -> Result<NodeTable, Memory>
-    requires { 0 < tables.old.leaves }
-    ensures { tables.new.leaves ≡ tables.old.leaves }
+    requires { 0 < tables.old.items }
+    ensures { tables.new.items ≡ tables.old.items }
 {
     send(tables, 0, sent);
     let input = tables.leaf_input(0)?;
