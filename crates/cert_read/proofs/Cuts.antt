@@ -6,7 +6,8 @@ use Rattle.std.proofs.lemmas.List.{get_or_past}
 use Rattle.std.proofs.Math.Nat.{div-le_self}
 use Rattle.std.proofs.Math.Dec.{lit≤}
 use Rattle.line_form.specs.Number.{cut_to}
-use Rattle.cert_read.specs.Statement.{Statement, certificate_line, scale_line, start_line, indicator_line, benchmark_line, value_line, multiplier_line, gap_line, end_line, cut_number, cut_line}
+use Rattle.cert_read.specs.Statement.{Statement, certificate_line, scale_line, start_line, indicator_line, benchmark_line, value_line, multiplier_line, gap_line, end_line}
+use Rattle.cert_read.specs.Cutting.{cut_number, cut_line}
 use Rattle.cert_read.specs.Content.{Content, AreIndicatorRanges, HasRanges, is_between, is_in_range, value_bound}
 use Rattle.cert_read.proofs.Ranges.{both_hold, between}
 

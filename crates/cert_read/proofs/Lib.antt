@@ -5,5 +5,7 @@ pub mod Documents
 pub mod Runs
 pub mod Wholes
 pub mod Spelled
+pub mod CutEntries
 pub mod Cuts
 pub mod Stands
+pub mod Verdicts

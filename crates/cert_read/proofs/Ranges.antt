@@ -8,7 +8,7 @@ use Rattle.std.proofs.Math.Seq.{get_or-append_seam}
 use Rattle.denton_parts.specs.Year.{IsBenchmark, IsMultiplier}
 use Rattle.dual_cert.specs.Document.{IsQuarterValue}
 use Rattle.cert_read.specs.Statement.{Statement, certificate_line, scale_line, start_line, indicator_line, benchmark_line, value_line, multiplier_line, gap_line, end_line}
-use Rattle.cert_read.specs.Reading.{first_noted}
+use Rattle.cert_read.specs.Progress.{first_noted}
 use Rattle.cert_read.specs.Content.{Content, HasRanges, IsInOrder, follows, with_line, is_quarter, is_between, is_in_range, value_bound}
 
 -- what holds of each number of a list, and of one more behind it

@@ -4,7 +4,8 @@ use Rattle.std.proofs.lemmas.Bool.{eq-eqb, le-leb, lt-ltb}
 use Rattle.std.proofs.lemmas.Int.{ints}
 use Rattle.std.proofs.lemmas.List.{append-nil, length-append}
 use Rattle.std.proofs.Math.Seq.{get_or-append_seam}
-use Rattle.dual_cert.specs.Document.{is_name, IsQuarterValue}
+use Rattle.line_form.specs.Name.{is_name}
+use Rattle.dual_cert.specs.Document.{IsQuarterValue}
 use Rattle.denton_parts.specs.Year.{IsBenchmark, IsMultiplier}
 use Rattle.cert_read.specs.Statement.{Statement, certificate_line, scale_line, start_line, indicator_line, benchmark_line, value_line, multiplier_line, gap_line, end_line}
 use Rattle.cert_read.specs.Content.{Content, nothing, quarter_from, is_quarter, is_between, is_in_range, follows, with_line, quarterly, yearly}

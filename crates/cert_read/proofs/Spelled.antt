@@ -3,7 +3,7 @@ use Rattle.std.proofs.Common.{◌≡◌, ℕ, ◌+◌, ◌/◌, ◌%◌, ◌<◌
 use Rattle.std.proofs.lemmas.Bool.{eqb-true, leb-true, ltb-true}
 use Rattle.std.proofs.lemmas.List.{append-nil, nil_from_length, length-append, map-append}
 use Rattle.period_keys.specs.Period.{Named}
-use Rattle.dual_cert.specs.Document.{is_name}
+use Rattle.line_form.specs.Name.{is_name}
 use Rattle.cert_read.specs.Statement.{Statement, certificate_line, scale_line, start_line, indicator_line, benchmark_line, value_line, multiplier_line, gap_line, end_line}
 use Rattle.cert_read.specs.Content.{Content, nothing, IsInOrder, quarter_from, is_quarter, follows, with_line, quarterly, yearly, spelled}
 use Rattle.line_form.specs.Lines.{next_number, lines_of}

@@ -3,9 +3,12 @@ use Rattle.std.proofs.Common.{◌≡◌, ℕ, zero, suc, ◌^◌, ◌≤◌, ℤ
 use Rattle.std.specs.Prelude.{option_map}
 use Rattle.std.proofs.lemmas.List.{length-map, map-append}
 use Rattle.std.proofs.Math.Dec.{lit≤}
-use Rattle.cert_read.specs.Statement.{Statement, certificate_line, scale_line, start_line, indicator_line, benchmark_line, value_line, multiplier_line, gap_line, end_line, cut_number, cut_line}
+use Rattle.cert_read.specs.Statement.{Statement, certificate_line, scale_line, start_line, indicator_line, benchmark_line, value_line, multiplier_line, gap_line, end_line}
+use Rattle.cert_read.specs.Cutting.{cut_number, cut_line}
 use Rattle.cert_read.specs.Content.{Content, nothing, is_between, follows, with_line, is_in_range}
-use Rattle.cert_read.specs.Reading.{Placed, fits, grown, is_kept, whole_from, out_from, judged}
+use Rattle.line_form.specs.Lines.{lines_of, next_number}
+use Rattle.cert_read.specs.Reading.{Placed, fits, grown, is_kept, kept, last_number, whole_from, out_from, judged, read_lines, reading}
+use Rattle.cert_read.specs.Progress.{outcome}
 use Rattle.cert_read.specs.Cutting.{cut_placed, read_placed}
 use Rattle.cert_read.proofs.Ranges.{both_hold, between}
 use Rattle.cert_read.proofs.Cuts.{AreSmall, size_at_most, abs_same, within_cut, within_same}
@@ -139,3 +142,8 @@ pub cut_lines_read : (missing : ℕ) (lines : List Placed) → read_placed missi
 cut_lines_read missing lines =
     let none : cut_number (pos 0) ≡ pos 0 = abs_same (10 ^ 37) 0 (pos 0) (lit≤ tt) (omega arith) in
     read_from missing nothing lines (ap (λ (z : ℤ). record nothing { front = z; scale = z; gap = z }) none) (λ t. omega arith)
+
+-- what comes of the cut lines of a text is what is read of it
+pub outcome_is_reading : (text : List ℕ) → outcome (record { content = nothing; late = None; last = 0 }) (lines_of text) ≡ reading text
+unfolding outcome reading read_lines
+outcome_is_reading text = cut_lines_read (next_number (last_number 0 (lines_of text))) (kept (lines_of text))

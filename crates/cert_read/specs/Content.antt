@@ -2,7 +2,8 @@
 use Rattle.std.specs.Prelude.{◌≡◌, ℕ, ◌+◌, ◌*◌, ◌/◌, ◌%◌, ◌^◌, ◌≤◌, ℤ, pos, ◌≤ℤ◌, int_le, unsigned_abs, Bool, ◌&&◌, ◌==◌, nat_le, nat_lt, IsTrue, List, [], ◌∷◌, ◌++◌, take, length, slice_index_or, EachIndex}
 use Rattle.period_keys.specs.Period.{Named}
 use Rattle.denton_parts.specs.Year.{IsBenchmark, IsMultiplier}
-use Rattle.dual_cert.specs.Document.{is_name, IsQuarterValue}
+use Rattle.line_form.specs.Name.{is_name}
+use Rattle.dual_cert.specs.Document.{IsQuarterValue}
 use Rattle.cert_read.specs.Statement.{Statement, certificate_line, scale_line, start_line, indicator_line, benchmark_line, value_line, multiplier_line, gap_line, end_line}
 
 -- what the lines so far say: of the three lines at the head and of the two at the end as many as stand

@@ -1,21 +1,12 @@
 -- The document of a certificate's text, or the first line at fault.
-use Rattle.std.specs.Prelude.{◌≡◌, ℕ, pos, Bool, true, false, not, ◌&&◌, ◌==◌, if◌then◌else◌, List, [], ◌∷◌, map, Option, Some, None, option_and_then, Result, Ok, Err}
-use Rattle.line_form.specs.Lines.{TextLine, lines_of, next_number}
+use Rattle.std.specs.Prelude.{◌≡◌, ℕ, pos, Bool, true, false, ◌==◌, if◌then◌else◌, List, [], ◌∷◌, map, Option, Some, None, option_and_then, Result, Ok, Err}
+use Rattle.line_form.specs.Lines.{TextLine, lines_of, next_number, is_passed_over}
 use Rattle.line_form.specs.Fields.{record_of}
 use Rattle.dual_cert.specs.declared.document.CertDoc.{CertDoc}
 use Rattle.cert_read.specs.declared.fault.CertFault.{CertFault}
 use Rattle.cert_read.specs.declared.fault.CertFault.TheVariants as fault
 use Rattle.cert_read.specs.Statement.{Statement, statement_of}
 use Rattle.cert_read.specs.Content.{Content, nothing, follows, with_line, is_in_range}
-
--- whether a line's bytes are none, or begin with a number sign
-abbrev pub is_comment : List ℕ → Bool
-is_comment [] = true
-is_comment (b ∷ bs) = b == 35
-
--- whether a line is passed over: an empty one and a comment are, a long one never
-abbrev pub is_passed_over : TextLine → Bool
-is_passed_over line = not line.long && is_comment line.text
 
 -- what a line says; none where it is long or no line of a certificate
 abbrev pub said : TextLine → Option Statement
@@ -75,21 +66,6 @@ read_lines lines = judged (whole_from (next_number (last_number 0 lines)) nothin
 unfoldable pub reading : List ℕ → Result Content CertFault
 reading text = read_lines (lines_of text)
 
--- how far a reader has come: what the lines say, the first line out of range, and the number of the last line
-pub record Progress : Type 0 where
-  pub content : Content
-  pub late : Option ℕ
-  pub last : ℕ
-
--- the first, or else the second
-abbrev pub first_noted : Option ℕ → Option ℕ → Option ℕ
-first_noted (Some line) other = Some line
-first_noted None other = other
-
--- what the rest of the lines makes of it
-unfoldable pub outcome : Progress → List TextLine → Result Content CertFault
-outcome p lines = judged (whole_from (next_number (last_number p.last lines)) p.content (kept lines)) (first_noted p.late (out_from p.content (kept lines)))
-
 -- the content of a document
 abbrev pub content_of : CertDoc → Content
 content_of doc = record { heads = 3; name = doc.name.items; front = pos doc.front; scale = pos doc.scale; start = doc.start; ind = map pos doc.ind.items; bench = doc.bench.items; x = doc.x.items; u = doc.u.items; gap = doc.gap; tail = 2 }
@@ -104,13 +80,3 @@ Fails (fault.Range line) read = read ≡ Err (fault.Range line)
 abbrev pub Gives : {X : Type 0} → (X → Content) → Result X CertFault → Result Content CertFault → Type 0
 Gives view (Ok x) read = read ≡ Ok (view x)
 Gives view (Err e) read = Fails e read
-
--- the progress with what the line of a number says
-abbrev pub with_statement : Progress → Statement → ℕ → Progress
-with_statement p s number = record { content = with_line p.content s; late = first_noted p.late (if is_in_range p.content s then None else Some number); last = number }
-
--- a fault at the line of a number: it may not follow, or want of memory
-abbrev pub IsEntryFault : CertFault → Bool → ℕ → Type 0
-IsEntryFault fault.Memory may number = Unit {0}
-IsEntryFault (fault.Shape line) may number = (may ≡ false) × (line ≡ number)
-IsEntryFault (fault.Range line) may number = ⊥

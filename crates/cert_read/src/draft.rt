@@ -6,7 +6,8 @@ ghost use Rattle.line_form.specs.Lines.{TextLine, line_view};
 ghost use Rattle.cert_read.specs.Statement.{entry_view, named_view};
 ghost use Rattle.cert_read.specs.Content.{Content, nothing, follows, with_line, is_in_range, is_quarter as is_quarter_at, is_between as is_between_of, IsInOrder, HasRanges};
 
-use crate::entry::{Entry, NamedQuarter, is_name};
+use crate::entry::{Entry, NamedQuarter};
+use line_form::is_name;
 use qna_base::Memory;
 use std::alloc::Global;
 use std::marker::Model;

@@ -1,13 +1,13 @@
 //! What one line of a certificate says.
 
-ghost use Rattle.std.specs.Prelude.{◌≡◌, ◌≤◌, ◌<◌, ◌^◌, ◌∷◌, ℤ, pos, IfOk, IfSome, option_map, option_and_then, unsigned_abs};
-ghost use Rattle.std.specs.List.{list_all};
-ghost use Rattle.period_keys.specs.Period.{year_of, quarter_of, four_digits as four_digits_of};
-ghost use Rattle.dual_cert.specs.Document.{is_name as is_name_of, is_name_byte as is_name_byte_of};
-ghost use Rattle.cert_read.specs.Statement.{statement_of, entry_view, named_view, number_in, single, plain, dated, periodic};
+ghost use Rattle.std.specs.Prelude.{◌≡◌, IfOk, option_map};
+ghost use Rattle.period_keys.specs.Period.{quarter_of};
+ghost use Rattle.line_form.specs.Number.{number_of};
+ghost use Rattle.cert_read.specs.Cutting.{cut_number, cut_line};
+ghost use Rattle.cert_read.specs.Statement.{statement_of, entry_view, named_view, single, plain, dated, periodic};
 
 use line_form::{Fields, read_number};
-use period_keys::read_quarter;
+use period_keys::{calendar_year, read_quarter};
 use qna_base::Memory;
 use std::alloc::Global;
 
@@ -36,10 +36,10 @@ pub(crate) enum Entry {
     End,
 }
 
-/// What a record says; none where it is no line of a certificate.
+/// What a record says, its number cut; none where it is no line of a certificate.
 #[tactic(auto, unfolding(crate::specs::Statement::statement_of), using(crate::proofs::Records::one_field, crate::proofs::Records::two_fields, crate::proofs::Records::three_fields, crate::proofs::Records::other_fields))]
 pub(crate) fn entry_of(alloc: Global, fields: &Fields) -> Result<Option<Entry>, Memory>
-    ensures { IfOk result (λ e. option_map entry_view e ≡ statement_of fields.now) }
+    ensures { IfOk result (λ e. option_map entry_view e ≡ option_map cut_line (statement_of fields.now)) }
 {
     match fields.len() {
         1 => Ok(single_entry(fields.get(0))),
@@ -51,7 +51,7 @@ pub(crate) fn entry_of(alloc: Global, fields: &Fields) -> Result<Option<Entry>, 
 
 /// What a line of one field says.
 fn single_entry(word: &[u8]) -> Option<Entry>
-    ensures { option_map entry_view result ≡ single word.now }
+    ensures { option_map entry_view result ≡ option_map cut_line (single word.now) }
 {
     if word == b"end".as_slice() {
         Some(Entry::End)
@@ -61,13 +61,14 @@ fn single_entry(word: &[u8]) -> Option<Entry>
 }
 
 /// What a line of a word and one field says.
+#[tactic(auto, using(crate::proofs::CutEntries::cut_entries))]
 fn plain_entry(word: &[u8], field: &[u8]) -> Option<Entry>
-    ensures { option_map entry_view result ≡ plain word.now field.now }
+    ensures { option_map entry_view result ≡ option_map cut_line (plain word.now field.now) }
 {
     if word == b"scale".as_slice() {
         Some(Entry::Scale(number(field)?))
     } else if word == b"start".as_slice() {
-        Some(Entry::Start(year(field)?))
+        Some(Entry::Start(calendar_year(field)?))
     } else if word == b"gap".as_slice() {
         Some(Entry::Gap(number(field)?))
     } else {
@@ -76,13 +77,15 @@ fn plain_entry(word: &[u8], field: &[u8]) -> Option<Entry>
 }
 
 /// What a line of a word, a name or a period, and a number says.
+#[tactic(auto, using(crate::proofs::CutEntries::cut_entries))]
 fn dated_entry(
     alloc: Global,
     word: &[u8],
     field: &[u8],
     value: &[u8],
 ) -> Result<Option<Entry>, Memory>
-    ensures { IfOk result (λ e. option_map entry_view e ≡ dated word.now field.now value.now) }
+    ensures { IfOk result (λ e.
+        option_map entry_view e ≡ option_map cut_line (dated word.now field.now value.now)) }
 {
     if word == b"cert".as_slice() {
         return match number(value) {
@@ -94,17 +97,19 @@ fn dated_entry(
 }
 
 /// What a line of a word, a period and a number says.
+#[tactic(auto, using(crate::proofs::CutEntries::cut_entries))]
 fn period_entry(word: &[u8], period: &[u8], value: &[u8]) -> Option<Entry>
-    ensures { option_map entry_view result ≡ periodic word.now period.now value.now }
+    ensures { option_map entry_view result
+        ≡ option_map cut_line (periodic word.now period.now value.now) }
 {
     if word == b"i".as_slice() {
         Some(Entry::Indicator(quarter(period)?, number(value)?))
     } else if word == b"b".as_slice() {
-        Some(Entry::Benchmark(year(period)?, number(value)?))
+        Some(Entry::Benchmark(calendar_year(period)?, number(value)?))
     } else if word == b"x".as_slice() {
         Some(Entry::Value(quarter(period)?, number(value)?))
     } else if word == b"u".as_slice() {
-        Some(Entry::Multiplier(year(period)?, number(value)?))
+        Some(Entry::Multiplier(calendar_year(period)?, number(value)?))
     } else {
         None
     }
@@ -112,42 +117,9 @@ fn period_entry(word: &[u8], period: &[u8], value: &[u8]) -> Option<Entry>
 
 /// The number that a field spells, cut to 10^37 on either side.
 fn number(field: &[u8]) -> Option<i128>
-    ensures { result ≡ number_in field.now }
+    ensures { result ≡ option_map cut_number (number_of field.now) }
 {
     read_number(field, MOST)
-}
-
-/// The year that a field spells.
-fn year(field: &[u8]) -> Option<u16>
-    ensures value { result ≡ year_of field.now }
-    ensures size { IfSome result (λ y. y < 10000) }
-{
-    match *field {
-        [a, b, c, d] => {
-            if a.is_ascii_digit()
-                && b.is_ascii_digit()
-                && c.is_ascii_digit()
-                && d.is_ascii_digit()
-            {
-                Some(four_digits(a, b, c, d))
-            } else {
-                None
-            }
-        }
-        _ => None,
-    }
-}
-
-/// The number of four digits.
-fn four_digits(a: u8, b: u8, c: u8, d: u8) -> u16
-    requires a { (48 ≤ a) × (a ≤ 57) }
-    requires b { (48 ≤ b) × (b ≤ 57) }
-    requires c { (48 ≤ c) × (c ≤ 57) }
-    requires d { (48 ≤ d) × (d ≤ 57) }
-    ensures value { result ≡ four_digits_of a b c d }
-    ensures size { result < 10000 }
-{
-    1000 * (a - b'0') as u16 + 100 * (b - b'0') as u16 + 10 * (c - b'0') as u16 + (d - b'0') as u16
 }
 
 /// The quarter that a field spells.
@@ -157,7 +129,7 @@ fn quarter(field: &[u8]) -> Option<NamedQuarter>
     if field.len() < 4 {
         return None;
     }
-    let year = year(&field[..4])?;
+    let year = calendar_year(&field[..4])?;
     match read_quarter(field, year) {
         Ok(place) => Some(NamedQuarter {
             year,
@@ -165,25 +137,4 @@ fn quarter(field: &[u8]) -> Option<NamedQuarter>
         }),
         Err(_) => None,
     }
-}
-
-/// Whether a field is a name: 1 to 32 ASCII letters, digits, `_`, `.` or `-`.
-pub(crate) fn is_name(field: &[u8]) -> bool
-    ensures { result ≡ is_name_of field.now }
-{
-    1 <= field.len() && field.len() <= 32 && has_name_bytes(field)
-}
-
-/// Whether each byte of a field may stand in a name.
-fn has_name_bytes(field: &[u8]) -> bool
-    ensures { result ≡ list_all is_name_byte_of field.now }
-{
-    field.iter().all(|byte| is_name_byte(*byte))
-}
-
-/// Whether a byte may stand in a name.
-fn is_name_byte(byte: u8) -> bool
-    ensures { result ≡ is_name_byte_of byte }
-{
-    byte.is_ascii_alphanumeric() || byte == b'_' || byte == b'.' || byte == b'-'
 }

@@ -3,7 +3,8 @@
 ghost use Rattle.std.specs.Prelude.{◌≡◌, List, ℕ, map, Some, Ok, true};
 ghost use Rattle.line_form.specs.Lines.{lines_of};
 ghost use Rattle.dual_cert.specs.declared.document.CertDoc.{CertDoc};
-ghost use Rattle.cert_read.specs.Statement.{Statement, cut_line};
+ghost use Rattle.cert_read.specs.Statement.{Statement};
+ghost use Rattle.cert_read.specs.Cutting.{cut_line};
 ghost use Rattle.cert_read.specs.Content.{Content, HasRanges, is_in_range, spelled};
 ghost use Rattle.cert_read.specs.Reading.{Placed, kept, reading, content_of};
 ghost use Rattle.cert_read.specs.Cutting.{cut_placed, read_placed};

@@ -4,13 +4,14 @@ ghost use Rattle.std.specs.Prelude.{◌≡◌, ◌∷◌, [], List, true, None, 
 ghost use Rattle.line_form.specs.Lines.{TextLine, line_view};
 ghost use Rattle.cert_read.specs.Statement.{entry_view};
 ghost use Rattle.cert_read.specs.Content.{nothing, follows, is_in_range, HasRanges};
-ghost use Rattle.cert_read.specs.Reading.{outcome, Fails, Gives, first_noted, with_statement, IsEntryFault};
+ghost use Rattle.cert_read.specs.Progress.{outcome, first_noted, with_statement, IsEntryFault};
+ghost use Rattle.cert_read.specs.Reading.{Fails, Gives};
 
 use crate::draft::Draft;
 use crate::entry::Entry;
 use crate::fault::CertFault;
-use crate::reading::{is_passed_over, said};
-use line_form::Line;
+use crate::reading::said;
+use line_form::{Line, is_passed_over};
 use std::alloc::Global;
 use std::marker::Model;
 
@@ -25,7 +26,7 @@ pub(crate) struct Progress {
 impl Model for Progress {
     ghost use Rattle.std.specs.Prelude.{◌≡◌, None};
     ghost use Rattle.cert_read.specs.Content.{HasRanges};
-    ghost use Rattle.cert_read.specs.Reading.{Progress as Told};
+    ghost use Rattle.cert_read.specs.Progress.{Progress as Told};
 
     ghost Value = { Told };
 
@@ -103,7 +104,7 @@ impl Progress {
     }
 
     /// What all lines say, at their end.
-    #[tactic(auto, unfolding(crate::specs::Reading::outcome))]
+    #[tactic(auto, unfolding(crate::specs::Progress::outcome))]
     pub(crate) fn finish(self) -> Result<Draft, CertFault>
         ensures gives { Gives (λ d. d) result (outcome self []) }
         ensures whole { IfOk result (λ d. d.tail ≡ 2) }

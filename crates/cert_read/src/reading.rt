@@ -2,9 +2,11 @@
 
 ghost use Rattle.std.specs.Prelude.{◌≡◌, [], ◌∷◌, List, ℕ, None, IfOk, map, option_map};
 ghost use Rattle.line_form.specs.Lines.{lines_of, line_view};
+ghost use Rattle.cert_read.specs.Cutting.{cut_line};
 ghost use Rattle.cert_read.specs.Statement.{entry_view};
 ghost use Rattle.cert_read.specs.Content.{nothing, HasRanges};
-ghost use Rattle.cert_read.specs.Reading.{is_comment as is_comment_of, is_passed_over as is_passed_over_of, said as said_of, outcome, reading, content_of, Gives};
+ghost use Rattle.cert_read.specs.Reading.{said as said_of, reading, content_of, Gives};
+ghost use Rattle.cert_read.specs.Progress.{outcome};
 
 use crate::document::document;
 use crate::draft::Draft;
@@ -29,7 +31,7 @@ pub fn read_cert(alloc: Global, text: &[u8]) -> Result<CertDoc, CertFault>
 }
 
 /// What all lines of a text say.
-#[tactic(auto, unfolding(crate::specs::Reading::reading, crate::specs::Reading::read_lines, crate::specs::Reading::outcome))]
+#[tactic(auto, using(crate::proofs::Stands::outcome_is_reading))]
 fn read_text(alloc: Global, text: &[u8]) -> Result<Draft, CertFault>
     ensures gives { Gives (λ d. d) result (reading text.now) }
     ensures whole { IfOk result (λ d. d.tail ≡ 2) }
@@ -51,7 +53,8 @@ fn cut(alloc: Global, text: &[u8]) -> Result<Lines, Memory>
 
 /// What all lines that wait say.
 fn read_all(alloc: Global, lines: &mut Lines) -> Result<Draft, CertFault>
-    ensures gives { Gives (λ d. d) result (outcome (record { content = nothing; late = None; last = 0 }) lines.old.waiting) }
+    ensures gives { Gives (λ d. d) result
+        (outcome (record { content = nothing; late = None; last = 0 }) lines.old.waiting) }
     ensures whole { IfOk result (λ d. d.tail ≡ 2) }
     ensures ranges { IfOk result HasRanges }
 {
@@ -62,26 +65,10 @@ fn read_all(alloc: Global, lines: &mut Lines) -> Result<Draft, CertFault>
     progress.finish()
 }
 
-/// Whether a line is passed over: an empty one and a comment are, a long one never.
-pub(crate) fn is_passed_over(line: &Line) -> bool
-    ensures { result ≡ is_passed_over_of (line_view line.now) }
-{
-    !line.long && is_comment(&line.text)
-}
-
-/// Whether a line's bytes are none, or begin with a number sign.
-fn is_comment(text: &[u8]) -> bool
-    ensures { result ≡ is_comment_of text.now }
-{
-    match text {
-        [] => true,
-        [first, ..] => *first == b'#',
-    }
-}
-
-/// What a line says; none where it is long or no line of a certificate.
+/// What a line says, its number cut; none where it is long or no line of a certificate.
 pub(crate) fn said(alloc: Global, line: &Line) -> Result<Option<Entry>, Memory>
-    ensures { IfOk result (λ e. option_map entry_view e ≡ said_of (line_view line.now)) }
+    ensures { IfOk result (λ e.
+        option_map entry_view e ≡ option_map cut_line (said_of (line_view line.now))) }
 {
     if line.long {
         return Ok(None);

@@ -48,7 +48,7 @@ pub fn compile_all<L: Ledger>(
     front: u64,
     steps: &mut Steps<L>,
 ) -> Result<Release, Memory>
-    requires { tables.now.leaves ≡ length plan.now.names }
+    requires { tables.now.items ≡ length plan.now.names }
     ensures front { IfOk result (λ release. release.front ≡ front) }
     ensures nodes { IfOk result (λ release. tables_in release ≡ item_tables (cell tables.now) plan.now) }
     ensures items { IfOk result (λ release. length (tables_in release) ≡ length plan.now.names) }
@@ -76,7 +76,7 @@ fn compile_item<L: Ledger>(
     behind: &[Arc<NodeTable>],
     steps: &mut Steps<L>,
 ) -> Result<NodeTable, Memory>
-    requires tables { tables.now.leaves ≡ length plan.now.names }
+    requires tables { tables.now.items ≡ length plan.now.names }
     requires parents { length plan.now.parents ≡ length plan.now.names }
     requires item { item < length plan.now.names }
     requires behind { AreLastItems (cell tables.now) plan.now (suc item) (map (λ node. table_in (arc_value node)) behind.now) }
@@ -99,7 +99,7 @@ fn leaf_of_plan<L: Ledger>(
     item: u16,
     steps: &mut Steps<L>,
 ) -> Result<NodeTable, Memory>
-    requires tables { item < tables.now.leaves }
+    requires tables { item < tables.now.items }
     requires item { item < length plan.now.parents }
     requires leaf { is_leaf plan.now item ≡ true }
     ensures table { IfOk result (λ table. table_in table ≡ item_table (cell tables.now) plan.now item) }

@@ -1,9 +1,3 @@
 pub mod Parts
 pub mod Lines
 pub mod Spelling
-pub mod Fields
-pub mod LineFields
-pub mod Statements
-pub mod Printed
-pub mod GapSizes
-pub mod Compiled

@@ -2,4 +2,3 @@ pub mod Line
 pub mod Release
 pub mod Certificate
 pub mod Part
-pub mod Laws

@@ -1,6 +1,6 @@
 use Rattle.std.proofs.Common.{◌≡◌, length, None}
 use Rattle.cert_read.specs.Content.{nothing}
-use Rattle.cert_read.specs.Reading.{outcome}
+use Rattle.cert_read.specs.Progress.{outcome}
 use Rattle.cert_read.proofs.reading.read_all.Given as goal
 
 -- what is read of the lines that wait still makes what all lines do

@@ -9,10 +9,10 @@ pub returns-in_err-push_item-clause-part : goal.returns-in_err-push_item-clause-
 returns-in_err-push_item-clause-part c =
     let inside : c.loop-item.item < length c.args.nodes.now = omega arith in
     let p = rw (c.deref.ensures, c.start.ensures.year) at c.in_err-push_item.ensures.part in
-    at_error _ _ (items_part _ _ _ _ c.args.plan.now.start c.loop-item.item c.args.plan.now.names c.name.result.now (λ node. table_in (arc_value node)) c.args.nodes.now c.index-nodes-item.result c.name.ensures inside c.index-nodes-item.is c.loop-item.invariant p)
+    at_error _ _ (items_part _ _ _ _ c.args.plan.now.start c.loop-item.item c.args.plan.now.names c.name.result.now (λ node. table_in (arc_value node)) c.args.nodes.now c.index-nodes-item.result c.name.ensures.item inside c.index-nodes-item.is c.loop-item.invariant p)
 
 pub loop-item-preserved : goal.loop-item-preserved
 loop-item-preserved c =
     let inside : c.loop-item.item < length c.args.nodes.now = omega arith in
     let grown = rw (c.deref.ensures, c.start.ensures.year) at c.in_ok-push_item.ensures.all in
-    items_more _ _ _ _ c.args.plan.now.start c.loop-item.item c.args.plan.now.names c.name.result.now (λ node. table_in (arc_value node)) c.args.nodes.now c.index-nodes-item.result c.name.ensures inside c.index-nodes-item.is c.loop-item.invariant grown
+    items_more _ _ _ _ c.args.plan.now.start c.loop-item.item c.args.plan.now.names c.name.result.now (λ node. table_in (arc_value node)) c.args.nodes.now c.index-nodes-item.result c.name.ensures.item inside c.index-nodes-item.is c.loop-item.invariant grown

@@ -1,7 +1,7 @@
 use Rattle.std.proofs.Common.{◌≡◌, true, None, sym, ap, subst, ◌∙◌}
 use Rattle.cert_read.specs.Statement.{entry_view}
 use Rattle.cert_read.specs.Content.{IsInOrder, HasRanges, follows, with_line}
-use Rattle.cert_read.specs.Reading.{Progress}
+use Rattle.cert_read.specs.Progress.{Progress}
 use Rattle.cert_read.proofs.Ranges.{ranges_kept}
 use Rattle.cert_read.proofs.progress.Progress.with_entry.Goals as goal
 

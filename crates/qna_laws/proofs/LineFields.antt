@@ -5,7 +5,7 @@ use Rattle.line_form.specs.Fields.{parts_from, is_special}
 use Rattle.line_form.specs.Lines.{ended_from, rest_from, without_return}
 use Rattle.std.specs.List.{list_any}
 use Rattle.release_print.specs.Line.{fields_text, line_text}
-use Rattle.release_print.proofs.Fields.{AreAtLeast, at_least_append, at_least_lower}
+use Rattle.qna_laws.proofs.Fields.{AreAtLeast, at_least_append, at_least_lower}
 
 -- a line's fields, each behind a comma, without the line feed
 abbrev pub fields_body : List (List ℕ) → List ℕ

@@ -22,14 +22,15 @@ use Rattle.extrapolate.proofs.Carrying.{all_within}
 use Rattle.price_base.specs.declared.Cell.{Cell}
 use Rattle.price_base.specs.declared.Cell.TheVariants.{Value}
 use Rattle.series_tables.specs.Ranges.{IsPositiveInRange, IsBenchmarkOrNone}
-use Rattle.dual_cert.specs.Document.{IsDocument, AreQuarters, is_name}
+use Rattle.dual_cert.specs.Document.{IsDocument, AreQuarters}
+use Rattle.line_form.specs.Name.{is_name}
 use Rattle.node_compile.specs.Laws.{numbers_in}
 use Rattle.node_compile.specs.Leaf.{benchmark_run, run_values, table_of_years, leaf_table}
 use Rattle.node_compile.specs.Table.{Certificate, Table}
 use Rattle.node_compile.proofs.Runs.{run_each, run_count, years_count, years_indicators}
 use Rattle.node_compile.proofs.Values.{quarters_in_range, indicators_count}
 use Rattle.node_compile.proofs.Worth.{leaf_worth}
-use Rattle.release_print.proofs.GapSizes.{gap_in_range}
+use Rattle.qna_laws.proofs.GapSizes.{gap_in_range}
 
 -- ---- the multipliers
 

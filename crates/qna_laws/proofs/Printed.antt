@@ -15,7 +15,8 @@ use Rattle.denton_parts.specs.Changes.{changes}
 use Rattle.denton_parts.specs.Gap.{gap_by}
 use Rattle.dual_cert.specs.declared.document.CertDoc.{CertDoc}
 use Rattle.dual_cert.specs.Verdict.{MeetsAll, gap_of_document}
-use Rattle.dual_cert.specs.Document.{IsDocument, IsQuarterValue, is_name, is_name_byte}
+use Rattle.dual_cert.specs.Document.{IsDocument, IsQuarterValue}
+use Rattle.line_form.specs.Name.{is_name, is_name_byte}
 use Rattle.cert_read.specs.Statement.{Statement, indicator_line, benchmark_line, value_line, multiplier_line}
 use Rattle.cert_read.specs.Content.{Content, nothing, quarter_from, quarterly, yearly, spelled}
 use Rattle.cert_read.specs.Reading.{kept, last_number, read_lines, reading, content_of as content_of_document}
@@ -23,8 +24,8 @@ use Rattle.cert_read.proofs.Runs.{IsWhole, run_all, run_read, all_lines}
 use Rattle.node_compile.specs.Laws.{numbers_in}
 use Rattle.node_compile.specs.Table.{Certificate}
 use Rattle.release_print.specs.Certificate.{statements_text, content_of}
-use Rattle.release_print.proofs.Fields.{AreAtLeast}
-use Rattle.release_print.proofs.Statements.{AreYearsRead, AreQuartersRead, IsNamed, IsSmall, IsFine, AreFine, printed_says}
+use Rattle.qna_laws.proofs.Fields.{AreAtLeast}
+use Rattle.qna_laws.proofs.Statements.{AreYearsRead, AreQuartersRead, IsNamed, IsSmall, IsFine, AreFine, printed_says}
 
 -- a certificate with the shape and the ranges of a document is whole
 pub whole_from : (start front : ℕ) (name : List ℕ) (c : Certificate) (values : List Cell) → IsDocument name front c.scale start c.indicators c.benchmarks (numbers_in values) c.multipliers c.gap → IsWhole (content_of start name front c values)

@@ -1,7 +1,7 @@
 use Rattle.std.proofs.lemmas.Option.{IfSome_then}
 use Rattle.node_compile.specs.Leaf.{leaf_table}
-use Rattle.release_print.proofs.Compiled.{leaf_sound}
-use Rattle.release_print.proofs.laws.compiled_certificate_is_true.Goals as goal
+use Rattle.qna_laws.proofs.Compiled.{leaf_sound}
+use Rattle.qna_laws.proofs.certificates.compiled_certificate_is_true.Goals as goal
 
 pub returns : goal.returns
 returns c = λ indicators prices benchmarks reference name start front each_indicator each_benchmark years few named first last fronts.

@@ -3,9 +3,8 @@ use Rattle.std.proofs.Common.{◌≡◌, ◌∙◌, ℕ, ◌+◌, ◌-◌, ◌*�
 use Rattle.std.specs.Fmt.{decimal, signed_decimal}
 use Rattle.std.proofs.lemmas.Bool.{ne_eqb, le-leb, cases_Bool}
 use Rattle.std.proofs.lemmas.Fmt.{decimal_by_steps_wide, length-decimal-le_wide}
-use Rattle.std.proofs.lemmas.Int.{ints, clamps}
-use Rattle.line_form.specs.Number.{is_digit, digits_from, magnitude_of, number_of, cut_to}
-use Rattle.cert_read.specs.Statement.{cut_number, number_in}
+use Rattle.std.specs.Char.{is_ascii_digit}
+use Rattle.line_form.specs.Number.{digits_from, magnitude_of, number_of}
 
 -- each byte is at least a number
 abbrev pub AreAtLeast : ℕ → List ℕ → Type 0
@@ -20,7 +19,7 @@ pub at_least_lower : (m n : ℕ) (xs : List ℕ) → n ≤ m → AreAtLeast m xs
 at_least_lower m n [] low a = tt
 at_least_lower m n (x ∷ xs) low a = (let above : m ≤ x = a.0 in omega arith, at_least_lower m n xs low a.1)
 
-digit_is : (d : ℕ) → d < 10 → is_digit (48 + d) ≡ true
+digit_is : (d : ℕ) → d < 10 → is_ascii_digit (48 + d) ≡ true
 digit_is d low = rw (le-leb 48 (48 + d) (omega arith), le-leb (48 + d) 57 (omega arith)) refl
 
 -- one more digit
@@ -30,7 +29,7 @@ push_one k d low = rw (digit_is d low) (ap (λ (n : ℕ). Some n) (omega arith))
 digits_push : (k m d : ℕ) (ds : List ℕ) → d < 10 → digits_from k ds ≡ Some m → digits_from k (ds ++ (48 + d) ∷ []) ≡ Some (10 * m + d)
 digits_push k m d [] low e = let same : k ≡ m = cc in rw (push_one k d low, same) refl
 digits_push k m d (c ∷ cs) low e =
-    elim (cases_Bool (is_digit c)) [
+    elim (cases_Bool (is_ascii_digit c)) [
       | inl t ↦ let later : digits_from (10 * k + (c - 48)) cs ≡ Some m = rw t at e in rw t (digits_push (10 * k + (c - 48)) m d cs low later)
       | inr f ↦ let none : None ≡ Some m = rw f at e in absurd (cc)
     ]
@@ -79,12 +78,3 @@ signed_clear (negsuc n) small = (omega arith, at_least_lower 48 45 (decimal (suc
 pub signed_length : (k : ℕ) (v : ℤ) → 0 < k → unsigned_abs v < 10 ^ k → unsigned_abs v < 10 ^ 64 → length (signed_decimal v) ≤ k + 1
 signed_length k (pos n) some few small = let h = length-decimal-le_wide k n some few small in omega arith
 signed_length k (negsuc n) some few small = let h = length-decimal-le_wide k (suc n) some few small in omega arith
-
-cut_same : (m : ℕ) (v : ℤ) → unsigned_abs v < m → cut_to (pos m) v ≡ v
-cut_same m v small = omega (arith, ints, clamps)
-
--- a printed number is read as itself, below the bound at which numbers are cut
-pub printed_number : (v : ℤ) → unsigned_abs v < 10 ^ 37 → number_in (signed_decimal v) ≡ Some v
-printed_number v small =
-    let wide : unsigned_abs v < 10 ^ 64 = omega arith in
-    ap (λ (o : Option ℤ). option_map cut_number o) (number_is v wide) ∙ ap (λ (z : ℤ). Some z) (cut_same (10 ^ 37) v small)

@@ -6,13 +6,14 @@ use Rattle.std.specs.Fmt.{signed_decimal}
 use Rattle.csv.specs.Reading.{strip_bom}
 use Rattle.period_keys.specs.Period.{Named, year_of, quarter_of, year_text, quarter_text}
 use Rattle.line_form.specs.Fields.{parts_from, record_of}
-use Rattle.line_form.specs.Lines.{ended_from, rest_from, line_at, next_number, numbered, lines_of}
+use Rattle.line_form.specs.Number.{number_of}
+use Rattle.line_form.specs.Lines.{ended_from, rest_from, line_at, next_number, numbered, lines_of, is_comment}
 use Rattle.line_form.proofs.CsvRecords.{plain_line}
-use Rattle.cert_read.specs.Statement.{Statement, certificate_line, scale_line, start_line, indicator_line, benchmark_line, value_line, multiplier_line, gap_line, end_line, statement_of, both, number_in}
-use Rattle.cert_read.specs.Reading.{is_comment, said, kept}
+use Rattle.cert_read.specs.Statement.{Statement, certificate_line, scale_line, start_line, indicator_line, benchmark_line, value_line, multiplier_line, gap_line, end_line, statement_of, both}
+use Rattle.cert_read.specs.Reading.{said, kept}
 use Rattle.release_print.specs.Certificate.{statement_text, statements_text}
-use Rattle.release_print.proofs.Fields.{AreAtLeast, at_least_append, at_least_lower, signed_clear, signed_length, printed_number}
-use Rattle.release_print.proofs.LineFields.{fields_body, line_body, line_end, AreFields, fields_plain, parts_line, piece_ended, rest_ended, return_kept, none_special}
+use Rattle.qna_laws.proofs.Fields.{AreAtLeast, at_least_append, at_least_lower, signed_clear, signed_length, number_is}
+use Rattle.qna_laws.proofs.LineFields.{fields_body, line_body, line_end, AreFields, fields_plain, parts_line, piece_ended, rest_ended, return_kept, none_special}
 
 -- what is written for a period is read again
 abbrev pub AreYearsRead : Type 0
@@ -27,7 +28,7 @@ pub record IsNamed (q : Named) : Type 0 where
   pub least : 1 ≤ q.number
   pub most : q.number ≤ 4
 
--- below the bound at which numbers are cut
+-- a number of at most 37 digits
 abbrev pub IsSmall : ℤ → Type 0
 IsSmall v = unsigned_abs v < 10 ^ 37
 
@@ -119,29 +120,32 @@ both_are make o p a b e f = rw (e, f) refl
 mapped : {A B : Type 0} (make : A → B) (o : Option A) (a : A) → o ≡ Some a → option_map make o ≡ Some (make a)
 mapped make o a e = rw e refl
 
+wide_from : (v : ℤ) → IsSmall v → unsigned_abs v < 10 ^ 64
+wide_from v small = omega arith
+
 pub body_says : AreYearsRead → AreQuartersRead → (s : Statement) → IsFine s → statement_of (parts_from [] (body_of s)) ≡ Some s
 unfolding statement_of
 body_says years quarters (certificate_line name front) f =
     ap statement_of (parts_line (codes "cert") (name ∷ signed_decimal front ∷ []) cert_word (f.0, (number_clear front f.2, tt)))
-    ∙ mapped (certificate_line name) (number_in (signed_decimal front)) front (printed_number front f.2)
+    ∙ mapped (certificate_line name) (number_of (signed_decimal front)) front (number_is front (wide_from front f.2))
 body_says years quarters (scale_line k) f =
-    ap statement_of (parts_line (codes "scale") (signed_decimal k ∷ []) scale_word (number_clear k f, tt)) ∙ mapped scale_line (number_in (signed_decimal k)) k (printed_number k f)
+    ap statement_of (parts_line (codes "scale") (signed_decimal k ∷ []) scale_word (number_clear k f, tt)) ∙ mapped scale_line (number_of (signed_decimal k)) k (number_is k (wide_from k f))
 body_says years quarters (start_line year) f =
     ap statement_of (parts_line (codes "start") (year_text year ∷ []) start_word (year_clear year, tt)) ∙ mapped start_line (year_of (year_text year)) year (years year f)
 body_says years quarters (indicator_line quarter value) f =
     ap statement_of (parts_line (codes "i") (quarter_text quarter ∷ signed_decimal value ∷ []) (letter_word 105 (lit≤ tt)) (quarter_clear quarter, (number_clear value f.1, tt)))
-    ∙ both_are indicator_line (quarter_of (quarter_text quarter)) (number_in (signed_decimal value)) quarter value (quarters quarter f.0.year f.0.least f.0.most) (printed_number value f.1)
+    ∙ both_are indicator_line (quarter_of (quarter_text quarter)) (number_of (signed_decimal value)) quarter value (quarters quarter f.0.year f.0.least f.0.most) (number_is value (wide_from value f.1))
 body_says years quarters (benchmark_line year value) f =
     ap statement_of (parts_line (codes "b") (year_text year ∷ signed_decimal value ∷ []) (letter_word 98 (lit≤ tt)) (year_clear year, (number_clear value f.1, tt)))
-    ∙ both_are benchmark_line (year_of (year_text year)) (number_in (signed_decimal value)) year value (years year f.0) (printed_number value f.1)
+    ∙ both_are benchmark_line (year_of (year_text year)) (number_of (signed_decimal value)) year value (years year f.0) (number_is value (wide_from value f.1))
 body_says years quarters (value_line quarter value) f =
     ap statement_of (parts_line (codes "x") (quarter_text quarter ∷ signed_decimal value ∷ []) (letter_word 120 (lit≤ tt)) (quarter_clear quarter, (number_clear value f.1, tt)))
-    ∙ both_are value_line (quarter_of (quarter_text quarter)) (number_in (signed_decimal value)) quarter value (quarters quarter f.0.year f.0.least f.0.most) (printed_number value f.1)
+    ∙ both_are value_line (quarter_of (quarter_text quarter)) (number_of (signed_decimal value)) quarter value (quarters quarter f.0.year f.0.least f.0.most) (number_is value (wide_from value f.1))
 body_says years quarters (multiplier_line year value) f =
     ap statement_of (parts_line (codes "u") (year_text year ∷ signed_decimal value ∷ []) (letter_word 117 (lit≤ tt)) (year_clear year, (number_clear value f.1, tt)))
-    ∙ both_are multiplier_line (year_of (year_text year)) (number_in (signed_decimal value)) year value (years year f.0) (printed_number value f.1)
+    ∙ both_are multiplier_line (year_of (year_text year)) (number_of (signed_decimal value)) year value (years year f.0) (number_is value (wide_from value f.1))
 body_says years quarters (gap_line value) f =
-    ap statement_of (parts_line (codes "gap") (signed_decimal value ∷ []) gap_word (number_clear value f, tt)) ∙ mapped gap_line (number_in (signed_decimal value)) value (printed_number value f)
+    ap statement_of (parts_line (codes "gap") (signed_decimal value ∷ []) gap_word (number_clear value f, tt)) ∙ mapped gap_line (number_of (signed_decimal value)) value (number_is value (wide_from value f))
 body_says years quarters end_line f = ap statement_of (parts_line (codes "end") [] end_word tt)
 
 -- no line is empty, a comment, or begins with a mark's first byte
