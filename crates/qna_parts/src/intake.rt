@@ -90,7 +90,7 @@ pub fn take_input<S: Source, R: Sink>(
     source: &mut S,
     report: &mut R,
 ) -> Result<Taken, Untaken>
-    ensures leaves { IfOk result (λ taken. taken.tables.leaves ≡ length plan.now.names) }
+    ensures items { IfOk result (λ taken. taken.tables.items ≡ length plan.now.names) }
     ensures few { IfOk result (λ taken. taken.accepted ≤ 262144) }
     ensures taken { IfOk result (λ taken. OnLeft (S.stock source.old) (λ text.
         HasTaken plan.now (lines_of text) taken.tables taken.accepted)) }
@@ -225,7 +225,7 @@ fn take_end<R: Sink>(
 ) -> Result<(), Untaken>
     requires ready { IsReady plan.now
         intake.old.lines intake.old.tables intake.old.accepted intake.old.refused.items }
-    ensures leaves { intake.new.tables.leaves ≡ length plan.now.names }
+    ensures items { intake.new.tables.items ≡ length plan.now.names }
     ensures few { OnOk result (intake.new.accepted ≤ 262144) }
     ensures taken { (stream : List ℕ)
         → IsTakenTo plan.now stream intake.old.lines intake.old.tables intake.old.accepted
@@ -263,10 +263,10 @@ fn take_lines<R: Sink>(
     intake: &mut Intake,
     report: &mut R,
 ) -> Result<(), Untaken>
-    requires leaves { intake.old.tables.leaves ≡ length plan.now.names }
+    requires items { intake.old.tables.items ≡ length plan.now.names }
     requires few { intake.old.accepted ≤ 262144 }
     requires nothing_kept { intake.old.refused.items ≡ [] }
-    ensures leaves { intake.new.tables.leaves ≡ intake.old.tables.leaves }
+    ensures items { intake.new.tables.items ≡ intake.old.tables.items }
     ensures few { OnOk result (intake.new.accepted ≤ 262144) }
     ensures nothing_kept { OnOk result (intake.new.refused.items ≡ []) }
     ensures count { OnOk result (intake.new.accepted ≡ intake.old.accepted

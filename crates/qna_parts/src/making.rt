@@ -22,7 +22,7 @@ pub trait Make {
         tables: &Tables,
         inputs: u64,
     ) -> Result<Vec<u8>, Memory>
-        requires { tables.now.leaves ≡ length plan.now.names }
+        requires { tables.now.items ≡ length plan.now.names }
         ensures { IfOk result (λ made. (given : List Input) → length given ≡ inputs →
             HoldsLast tables.now given → made.items ≡ text self.now plan.now given) };
 }

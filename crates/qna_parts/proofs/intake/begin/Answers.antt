@@ -4,7 +4,7 @@ use Rattle.qna_parts.proofs.intake.begin.Goals as goal
 
 pub returns-clause-ready : goal.returns-clause-ready
 returns-clause-ready c = record {
-  leaves = c.in_ok-new-2.ensures.leaves;
+  items = c.in_ok-new-2.ensures.items;
   few = omega arith;
   goes_on = c.in_ok-new.ensures.1;
   none_waits = nothing_waits c.in_ok-new.field-0 c.in_ok-new.ensures.0 c.in_ok-new.ensures.1;
