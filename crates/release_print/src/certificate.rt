@@ -69,7 +69,7 @@ fn push_indicator(
     indicator: &u32,
 ) -> Result<(), Memory>
     requires last { start ≤ 2200 }
-    requires within { quarter < 256 }
+    requires within { quarter < 512 }
     ensures all { OnOk result (out.new.items ≡ out.old.items ++ statement_text (indicator_line (quarter_from start quarter) (pos indicator.now))) }
     ensures part { OnErr result (AppendsPart out.old.items out.new.items (statement_text (indicator_line (quarter_from start quarter) (pos indicator.now)))) }
 {
@@ -81,7 +81,7 @@ fn push_indicator(
 /// Appends the lines of the indicators, from the start year's first quarter on.
 fn push_indicators(out: &mut Vec<u8>, start: u16, indicators: &[u32]) -> Result<(), Memory>
     requires last { start ≤ 2200 }
-    requires few { length indicators.now ≤ 256 }
+    requires few { length indicators.now ≤ 512 }
     ensures all { OnOk result (out.new.items ≡ out.old.items ++ statements_text (quarterly indicator_line start 0 (map pos indicators.now))) }
     ensures part { OnErr result (AppendsPart out.old.items out.new.items (statements_text (quarterly indicator_line start 0 (map pos indicators.now)))) }
 {
@@ -105,7 +105,7 @@ fn push_benchmark(out: &mut Vec<u8>, year: u16, benchmark: &i64) -> Result<(), M
 /// Appends the lines of the benchmarks, from the start year on.
 fn push_benchmarks(out: &mut Vec<u8>, start: u16, benchmarks: &[i64]) -> Result<(), Memory>
     requires last { start ≤ 2200 }
-    requires few { length benchmarks.now ≤ 64 }
+    requires few { length benchmarks.now ≤ 128 }
     ensures all { OnOk result (out.new.items ≡ out.old.items ++ statements_text (yearly benchmark_line start benchmarks.now)) }
     ensures part { OnErr result (AppendsPart out.old.items out.new.items (statements_text (yearly benchmark_line start benchmarks.now))) }
 {
@@ -118,7 +118,7 @@ fn push_benchmarks(out: &mut Vec<u8>, start: u16, benchmarks: &[i64]) -> Result<
 /// Appends the line of a quarter's value.
 fn push_value(out: &mut Vec<u8>, start: u16, quarter: usize, cell: &Cell) -> Result<(), Memory>
     requires last { start ≤ 2200 }
-    requires within { quarter < 256 }
+    requires within { quarter < 512 }
     ensures all { OnOk result (out.new.items ≡ out.old.items ++ statement_text (value_line (quarter_from start quarter) (number_in_cell cell.now))) }
     ensures part { OnErr result (AppendsPart out.old.items out.new.items (statement_text (value_line (quarter_from start quarter) (number_in_cell cell.now)))) }
 {
@@ -134,7 +134,7 @@ fn push_value(out: &mut Vec<u8>, start: u16, quarter: usize, cell: &Cell) -> Res
 /// Appends the lines of the values, from the start year's first quarter on.
 fn push_values(out: &mut Vec<u8>, start: u16, cells: &[Cell]) -> Result<(), Memory>
     requires last { start ≤ 2200 }
-    requires few { length cells.now ≤ 256 }
+    requires few { length cells.now ≤ 512 }
     ensures all { OnOk result (out.new.items ≡ out.old.items ++ statements_text (quarterly value_line start 0 (numbers_in cells.now))) }
     ensures part { OnErr result (AppendsPart out.old.items out.new.items (statements_text (quarterly value_line start 0 (numbers_in cells.now)))) }
 {
@@ -168,7 +168,7 @@ fn push_multiplier(out: &mut Vec<u8>, year: u16, multiplier: &i128) -> Result<()
 /// Appends the lines of the multipliers, each by the year before it.
 fn push_multipliers(out: &mut Vec<u8>, start: u16, multipliers: &[i128]) -> Result<(), Memory>
     requires last { start ≤ 2200 }
-    requires few { length multipliers.now ≤ 64 }
+    requires few { length multipliers.now ≤ 128 }
     ensures all { OnOk result (out.new.items ≡ out.old.items ++ statements_text (yearly multiplier_line start multipliers.now)) }
     ensures part { OnErr result (AppendsPart out.old.items out.new.items (statements_text (yearly multiplier_line start multipliers.now))) }
 {
@@ -204,7 +204,7 @@ fn push_numbers(
     cells: &[Cell],
 ) -> Result<(), Memory>
     requires last { start ≤ 2200 }
-    requires few { length cells.now ≤ 256 }
+    requires few { length cells.now ≤ 512 }
     requires benchmarked { IsBenchmarked part.now.ind.items part.now.bench.items part.now.cert.u.items cells.now }
     ensures all { OnOk result (out.new.items ≡ out.old.items ++ numbers_text start (certificate_in part.now) cells.now) }
     ensures part { OnErr result (AppendsPart out.old.items out.new.items (numbers_text start (certificate_in part.now) cells.now)) }
@@ -225,7 +225,7 @@ fn push_certificate(
     cells: &[Cell],
 ) -> Result<(), Memory>
     requires last { start ≤ 2200 }
-    requires few { length cells.now ≤ 256 }
+    requires few { length cells.now ≤ 512 }
     requires benchmarked { IsBenchmarked part.now.ind.items part.now.bench.items part.now.cert.u.items cells.now }
     ensures all { OnOk result (out.new.items ≡ out.old.items ++ certificate_or_none start name.now front (Some (certificate_in part.now)) cells.now) }
     ensures part { OnErr result (AppendsPart out.old.items out.new.items (certificate_or_none start name.now front (Some (certificate_in part.now)) cells.now)) }

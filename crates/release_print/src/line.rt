@@ -25,7 +25,7 @@ pub(crate) fn push_line(out: &mut Vec<u8>, word: &[u8], fields: &[&[u8]]) -> Res
 /// The text of a quarter, counted from the start year's first.
 pub(crate) fn quarter_text(start: u16, quarter: usize) -> [u8; 6]
     requires last { start ≤ 2200 }
-    requires within { quarter < 256 }
+    requires within { quarter < 512 }
     ensures { result ≡ quarter_text_of (quarter_from start quarter) }
 {
     let [a, b, c, d] = year_text(start + (quarter / 4) as u16);

@@ -39,7 +39,7 @@ fn push_cell(
     cell: &Cell,
 ) -> Result<(), Memory>
     requires last { start ≤ 2200 }
-    requires within { quarter < 256 }
+    requires within { quarter < 512 }
     ensures all { OnOk result (out.new.items ≡ out.old.items ++ cell_line word.now start name.now quarter cell.now) }
     ensures part { OnErr result (AppendsPart out.old.items out.new.items (cell_line word.now start name.now quarter cell.now)) }
 {
@@ -57,7 +57,7 @@ fn push_cells(
     cells: &[Cell],
 ) -> Result<(), Memory>
     requires last { start ≤ 2200 }
-    requires few { length cells.now ≤ 256 }
+    requires few { length cells.now ≤ 512 }
     ensures all { OnOk result (out.new.items ≡ out.old.items ++ cell_lines word.now start name.now 0 cells.now) }
     ensures part { OnErr result (AppendsPart out.old.items out.new.items (cell_lines word.now start name.now 0 cells.now)) }
 {
@@ -77,9 +77,9 @@ fn push_quarters(
     chained: &[Cell],
 ) -> Result<(), Memory>
     requires last { start ≤ 2200 }
-    requires few_values { length values.now ≤ 256 }
-    requires few_volumes { length volumes.now ≤ 256 }
-    requires few_chained { length chained.now ≤ 256 }
+    requires few_values { length values.now ≤ 512 }
+    requires few_volumes { length volumes.now ≤ 512 }
+    requires few_chained { length chained.now ≤ 512 }
     ensures all { OnOk result (out.new.items ≡ out.old.items ++ quarter_lines start name.now values.now volumes.now chained.now) }
     ensures part { OnErr result (AppendsPart out.old.items out.new.items (quarter_lines start name.now values.now volumes.now chained.now)) }
 {
@@ -132,7 +132,7 @@ fn push_years(
     drifts: &[Cell],
 ) -> Result<(), Memory>
     requires last { start ≤ 2200 }
-    requires few { length values.now ≤ 64 }
+    requires few { length values.now ≤ 128 }
     requires volumes { length volumes.now ≡ length values.now }
     requires levels { length levels.now ≡ length values.now }
     requires drifts { length drifts.now ≡ length values.now }
