@@ -1,7 +1,7 @@
 -- What `batch` leaves where it ends with `Done`.
 use Rattle.std.proofs.Common.{◌≡◌, List, ℕ, Option, Some, IfSome, inl, inr, refl}
 use Rattle.std.specs.Prelude.{Ok}
-use Rattle.qna_edges.specs.Paper.{Paper, grown}
+use Rattle.qna_edges.specs.Paper.{grown}
 use Rattle.series_tables.specs.Plan.{plan_of}
 use Rattle.input_rules.specs.Accepted.{accepted}
 use Rattle.qna_parts.specs.Intake.{refusals_text}
