@@ -3,9 +3,7 @@ use Rattle.std.proofs.Common.{◌≡◌, ℕ, Bool, true, false, ◌&&◌, List,
 use Rattle.std.specs.Prelude.{codes}
 use Rattle.std.specs.Str.{bytes_eq}
 use Rattle.std.proofs.lemmas.Slice.Eq.{bytes_eq-Decides}
-use Rattle.qna_cli.specs.Command.{is_file_name, is_batch, are_file_names}
-use Rattle.qna_cli.specs.Check.{begins_check, is_check}
-use Rattle.qna_parts.proofs.Written.{AppendsPrefix-same}
+use Rattle.qna_cli.specs.Command.{is_file_name, is_batch, are_file_names, begins_check, is_check}
 
 -- the word `check` isn't the word `batch`
 other_word : (word : List ℕ) → bytes_eq word (codes "check") ≡ true → bytes_eq word (codes "batch") ≡ false
@@ -27,4 +25,4 @@ not_check (word ∷ []) e = refl
 not_check (word ∷ name ∷ []) e = ap (λ (test : Bool). test && is_file_name name) e
 not_check (word ∷ name ∷ more ∷ words) e = refl
 
-pub ruleset branches = (not_batch, not_check, AppendsPrefix-same)
+pub ruleset branches = (not_batch, not_check)

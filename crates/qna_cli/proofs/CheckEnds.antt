@@ -2,7 +2,8 @@
 use Rattle.std.proofs.Common.{◌≡◌, ◌≤◌, ◌<◌, ◌+◌, ℕ, List, length, Option, Some, IfSome, inl, inr, refl, arith}
 use Rattle.qna_edges.specs.declared.status.Status.{Status}
 use Rattle.qna_edges.specs.declared.status.Status.TheVariants.{Done, Memory, Usage, PlanFault, OpenFault, ReadFault, WriteFault, CheckNo, TooMuch}
-use Rattle.qna_cli.specs.BatchEnd.{Shelves, Paper}
+use Rattle.qna_edges.specs.Paper.{Paper}
+use Rattle.qna_edges.specs.Shelves.{Shelves}
 use Rattle.qna_cli.specs.CheckEnd.{certificate_limit, IsCheckEnd, CheckCompletes}
 
 too_long : (file : Option (List ℕ)) (text : List ℕ) (left : ℕ) → file ≡ Some text → length text ≤ certificate_limit → IfSome file (λ text. certificate_limit + left < length text) → ⊥
@@ -15,7 +16,7 @@ check_completes old new before after name CheckNo end text tells at few opened r
 check_completes old new before after name Memory end text tells at few opened read told = inr (inr refl)
 check_completes old new before after name Usage end text tells at few opened read told = absurd (let no = end.ends in cc)
 check_completes old new before after name PlanFault end text tells at few opened read told = absurd (let no = end.ends in cc)
-check_completes old new before after name OpenFault end text tells at few opened read told = absurd (opened (end.open_fault refl))
-check_completes old new before after name ReadFault end text tells at few opened read told = absurd (read (end.read_fault refl))
-check_completes old new before after name WriteFault end text tells at few opened read told = absurd (told (end.write_fault refl))
-check_completes old new before after name TooMuch end text tells at few opened read told = absurd (too_long (old.file name) text (new.rest name) at few (end.too_much refl tells))
+check_completes old new before after name OpenFault end text tells at few opened read told = absurd (opened (end.unread.unopened refl).0)
+check_completes old new before after name ReadFault end text tells at few opened read told = absurd (read (end.unread.unread refl).0)
+check_completes old new before after name WriteFault end text tells at few opened read told = absurd (told (end.cut_yes refl).0)
+check_completes old new before after name TooMuch end text tells at few opened read told = absurd (too_long (old.under name).file text (new.under name).rest at few (end.unread.passed refl tells))

@@ -1,8 +1,8 @@
 -- What `check` finds of a certificate's text, and the line that says so.
-use Rattle.std.specs.Prelude.{◌≡◌, ℕ, ◌+◌, ◌^◌, ℤ, pos, unsigned_abs, Bool, false, ◌&&◌, if◌then◌else◌, List, [], ◌∷◌, map, codes, decimal, Option, Some, None, Result, Ok, Err}
+use Rattle.std.specs.Prelude.{◌≡◌, ℕ, ◌+◌, ◌^◌, ℤ, pos, unsigned_abs, if◌then◌else◌, List, [], ◌∷◌, map, codes}
+use Rattle.std.specs.Prelude.{decimal, Option, Some, None, Result, Ok, Err}
 use Rattle.std.specs.Ordering.{int_eq}
 use Rattle.std.specs.Fmt.{signed_decimal}
-use Rattle.std.specs.Str.{bytes_eq}
 use Rattle.denton_parts.specs.Benchmarks.{MeetsBenchmarks}
 use Rattle.denton_parts.specs.Ratios.{IsWithinGap}
 use Rattle.denton_parts.specs.Changes.{changes}
@@ -14,23 +14,7 @@ use Rattle.cert_read.specs.declared.fault.CertFault.{CertFault}
 use Rattle.cert_read.specs.declared.fault.CertFault.TheVariants.{Shape, Range, Memory}
 use Rattle.cert_read.specs.Content.{Content}
 use Rattle.cert_read.specs.Reading.{reading}
-use Rattle.qna_cli.specs.Command.{is_file_name}
 use Rattle.qna_parts.specs.StatusLine.{word_line, named_line, pair_line}
-
--- whether the first word is `check`
-abbrev pub begins_check : List (List ℕ) → Bool
-begins_check [] = false
-begins_check (word ∷ words) = bytes_eq word (codes "check")
-
--- whether the words are `check CERT`, with a file's name
-abbrev pub is_check : List (List ℕ) → Bool
-is_check (word ∷ name ∷ []) = bytes_eq word (codes "check") && is_file_name name
-is_check words = false
-
--- P holds of the name in the words `check CERT`
-abbrev pub OnCheck : List (List ℕ) → (List ℕ → Type 0) → Type 0
-OnCheck (word ∷ name ∷ []) P = P name
-OnCheck words P = Unit {0}
 
 -- the indicators that a certificate says, each above 0
 abbrev pub indicators_of : Content → List ℕ
@@ -38,12 +22,14 @@ indicators_of said = map unsigned_abs said.ind
 
 -- the gap of a certificate's own series, indicators and multipliers
 abbrev pub gap_of_content : Content → ℤ
-gap_of_content said = gap_by (pos (10 ^ unsigned_abs said.scale)) (indicators_of said) said.x (changes said.u (indicators_of said))
+gap_of_content said =
+    gap_by (pos (10 ^ unsigned_abs said.scale)) (indicators_of said) said.x (changes said.u (indicators_of said))
 
 -- the first of the years, numbered on from one, whose quarters don't add up to its benchmark
 abbrev pub first_missed_from : List ℤ → ℕ → List ℤ → Option ℕ
 first_missed_from quarters year [] = None
-first_missed_from quarters year (benchmark ∷ later) = if int_eq (year_total quarters year) benchmark then first_missed_from quarters (year + 1) later else Some year
+first_missed_from quarters year (benchmark ∷ later) =
+    if int_eq (year_total quarters year) benchmark then first_missed_from quarters (year + 1) later else Some year
 
 -- the verdict where the first year that is missed is this one, or none is
 abbrev pub verdict_with : Content → Option ℕ → Verdict
@@ -83,7 +69,9 @@ found_line (Err Memory) = []
 unfoldable pub verdict_text : List ℕ → List ℕ
 verdict_text text = found_line (found text)
 
--- the text spells a certificate whose series meets its benchmarks, and no series that meets them is better by more than the gap that stands there
+-- the text spells a certificate whose series meets its benchmarks, and no series that meets them is better by more than
+-- the gap that stands there
 unfoldable pub CertifiesItsGap : List ℕ → Type 0
 CertifiesItsGap text =
-    (said : Content) × (reading text ≡ Ok said) × MeetsBenchmarks said.bench (pos 1) said.x × IsWithinGap (indicators_of said) said.bench said.x said.gap (pos (10 ^ unsigned_abs said.scale))
+    (said : Content) × (reading text ≡ Ok said) × MeetsBenchmarks said.bench (pos 1) said.x
+    × IsWithinGap (indicators_of said) said.bench said.x said.gap (pos (10 ^ unsigned_abs said.scale))

@@ -1,5 +1,5 @@
-pub mod Release
-pub mod Command
-pub mod BatchEnd
+pub mod Batch
 pub mod Check
 pub mod CheckEnd
+pub mod Command
+pub mod Release

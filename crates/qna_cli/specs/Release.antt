@@ -11,9 +11,13 @@ use Rattle.release_print.specs.Release.{release_text}
 unfoldable pub release_of : PlanShape → List Input → List ℕ
 release_of plan inputs = release_text plan (length inputs) (compilation plan inputs)
 
--- whatever the plan and the text: each leaf's values meet its benchmarks in every benchmarked year, no series that meets them has a sum of squared ratio changes
--- smaller by more than the printed gap, and each item's chained volumes are those of the annual overlap: a level is the exact product of the links up to its drift,
--- and the quarters of a complete year add up to it
+-- whatever the plan and the text: each leaf's values meet its benchmarks in every benchmarked year, no series that
+-- meets them has a sum of squared ratio changes smaller by more than the printed gap, and each item's chained volumes
+-- are those of the annual overlap: a level is the exact product of the links up to its drift, and the quarters of a
+-- complete year add up to it
 unfoldable pub ReleasesAreCertified : Type 0
 ReleasesAreCertified =
-    (plan : PlanShape) (text : List ℕ) → All MeetsItsBenchmarks (compilation plan (accepted plan text)) × All IsWithinItsGap (compilation plan (accepted plan text)) × All (IsTrulyChained plan.reference) (compilation plan (accepted plan text))
+    (plan : PlanShape) (text : List ℕ)
+    → All MeetsItsBenchmarks (compilation plan (accepted plan text))
+    × All IsWithinItsGap (compilation plan (accepted plan text))
+    × All (IsTrulyChained plan.reference) (compilation plan (accepted plan text))

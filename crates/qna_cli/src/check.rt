@@ -1,14 +1,13 @@
 //! The command `check`: a certificate in, the verdict on it out.
 
-ghost use Rattle.std.specs.Prelude.{◌≡◌, ◌≢◌, ◌<◌, ◌≤◌, ◌+◌, ◌⊎◌, map, codes, decimal, true, false, length, Ok, IsTrue, IfSome};
+ghost use Rattle.std.specs.Prelude.{◌≡◌, ◌≢◌, ◌⊎◌, codes, decimal, true, false, Ok};
 ghost use Rattle.std.specs.Fmt.{signed_decimal};
-ghost use Rattle.std.specs.Io.KnownBytes.{Appends};
 ghost use Rattle.qna_edges.specs.Count.{Rose};
-ghost use Rattle.qna_edges.specs.Names.{SameAtAll, SameAtOthers};
-ghost use Rattle.qna_edges.specs.Told.{AppendsPrefix};
+ghost use Rattle.qna_edges.specs.Paper.{grown, BreaksOff, Writes};
 ghost use Rattle.qna_parts.specs.StatusLine.{named_line, pair_line};
-ghost use Rattle.qna_cli.specs.Check.{is_check, OnCheck, found, verdict_text, IsFound, CertifiesItsGap};
-ghost use Rattle.qna_cli.specs.CheckEnd.{ends_at_yes, ends_at_verdict, ends_a_check, IsCheckEnd, CheckCompletes};
+ghost use Rattle.qna_cli.specs.Command.{words_in, is_check, OnCheck};
+ghost use Rattle.qna_cli.specs.Check.{found, verdict_text, IsFound, CertifiesItsGap};
+ghost use Rattle.qna_cli.specs.CheckEnd.{ends_at_yes, ends_at_verdict, IsCheckEnd, ChecksComplete};
 
 use crate::command::is_file_name;
 use cert_read::{CertFault, read_cert};
@@ -32,10 +31,15 @@ fn find(alloc: Global, text: &[u8]) -> Result<Verdict, CertFault>
 
 /// Reports the verdict yes. Where its line is refused the status says so.
 fn tell_yes<K: Sink>(report: &mut K) -> Status
-    ensures told { result ≡ Status.Done → Appends (K.held report.old) (K.held report.new) (codes "yes\n") }
-    ensures part { AppendsPrefix (K.held report.old) (K.held report.new) (codes "yes\n") }
-    ensures fault { result ≡ Status.WriteFault → Rose (K.faults report.old) (K.faults report.new) }
-    ensures ends { (result ≡ Status.Done) ⊎ ((result ≡ Status.WriteFault) ⊎ (result ≡ Status.Memory)) }
+    ensures told { result ≡ Status.Done →
+        K.paper report.new ≡ grown (K.paper report.old) (codes "yes\n") }
+    ensures cut { result ≡ Status.WriteFault →
+        Rose (K.paper report.old).faults (K.paper report.new).faults
+        × BreaksOff (K.paper report.old) (K.paper report.new) (codes "yes\n") }
+    ensures memory { result ≡ Status.Memory →
+        BreaksOff (K.paper report.old) (K.paper report.new) (codes "yes\n") }
+    ensures ends { (result ≡ Status.Done)
+        ⊎ ((result ≡ Status.WriteFault) ⊎ (result ≡ Status.Memory)) }
 {
     match tell_word(report, "yes") {
         Ok(()) => Status::Done,
@@ -44,9 +48,11 @@ fn tell_yes<K: Sink>(report: &mut K) -> Status
 }
 
 /// Reports a verdict that isn't yes by its word and the number of a year or a line.
+#[tactic(auto, using(qna_edges::proofs::Paper::printed))]
 fn tell_number<K: Sink>(report: &mut K, word: &str, number: u64) -> Status
     ensures status { result ≡ Status.CheckNo }
-    ensures part { AppendsPrefix (K.held report.old) (K.held report.new) (named_line word.now (decimal number)) }
+    ensures told { Writes (K.paper report.old) (K.paper report.new)
+        (named_line word.now (decimal number)) }
 {
     let mut buffer = Buffer::new();
     let _ = tell(report, word, buffer.format(number));
@@ -54,9 +60,11 @@ fn tell_number<K: Sink>(report: &mut K, word: &str, number: u64) -> Status
 }
 
 /// Reports that a certificate's gap is another than the one of its numbers.
+#[tactic(auto, using(qna_edges::proofs::Paper::printed))]
 fn tell_gap<K: Sink>(report: &mut K, said: i128, found: i128) -> Status
     ensures status { result ≡ Status.CheckNo }
-    ensures part { AppendsPrefix (K.held report.old) (K.held report.new) (pair_line (codes "no,gap") (signed_decimal said) (signed_decimal found)) }
+    ensures told { Writes (K.paper report.old) (K.paper report.new)
+        (pair_line (codes "no,gap") (signed_decimal said) (signed_decimal found)) }
 {
     let mut first = Buffer::new();
     let mut second = Buffer::new();
@@ -65,15 +73,20 @@ fn tell_gap<K: Sink>(report: &mut K, said: i128, found: i128) -> Status
 }
 
 /// Reports what is found of a certificate's text.
-#[tactic(auto, unfolding(crate::specs::Check::verdict_text), using(qna_parts::proofs::Written::written))]
+#[tactic(auto, unfolding(crate::specs::Check::verdict_text))]
 fn tell_found<K: Sink>(alloc: Global, text: &[u8], report: &mut K) -> Status
-    ensures yes { ends_at_yes result ≡ true → found text.now ≡ Ok Verdict.Yes }
-    ensures certified { ends_at_yes result ≡ true → CertifiesItsGap text.now }
-    ensures told_yes { result ≡ Status.Done → Appends (K.held report.old) (K.held report.new) (codes "yes\n") }
-    ensures part_of_yes { (result ≡ Status.WriteFault) ⊎ (result ≡ Status.Memory) → AppendsPrefix (K.held report.old) (K.held report.new) (codes "yes\n") }
-    ensures no { result ≡ Status.CheckNo → found text.now ≢ Ok Verdict.Yes }
-    ensures told_no { result ≡ Status.CheckNo → AppendsPrefix (K.held report.old) (K.held report.new) (verdict_text text.now) }
-    ensures fault { result ≡ Status.WriteFault → Rose (K.faults report.old) (K.faults report.new) }
+    ensures yes { ends_at_yes result ≡ true →
+        (found text.now ≡ Ok Verdict.Yes) × CertifiesItsGap text.now }
+    ensures told_yes { result ≡ Status.Done →
+        K.paper report.new ≡ grown (K.paper report.old) (codes "yes\n") }
+    ensures cut_yes { result ≡ Status.WriteFault →
+        Rose (K.paper report.old).faults (K.paper report.new).faults
+        × BreaksOff (K.paper report.old) (K.paper report.new) (codes "yes\n") }
+    ensures no { result ≡ Status.CheckNo → (found text.now ≢ Ok Verdict.Yes)
+        × Writes (K.paper report.old) (K.paper report.new) (verdict_text text.now) }
+    ensures memory { result ≡ Status.Memory → (K.paper report.new ≡ K.paper report.old)
+        ⊎ (BreaksOff (K.paper report.old) (K.paper report.new) (codes "yes\n")
+        × (found text.now ≡ Ok Verdict.Yes)) }
     ensures ends { (result ≡ Status.Memory) ⊎ (ends_at_verdict result ≡ true) }
 {
     match find(alloc, text) {
@@ -86,35 +99,11 @@ fn tell_found<K: Sink>(alloc: Global, text: &[u8], report: &mut K) -> Status
     }
 }
 
-/// Reads the certificate and reports the verdict on it. Each clause is one part of how the command ends.
-fn check_by_clauses<C: Cabinet, K: Sink>(
-    alloc: Global,
-    name: &str,
-    cabinet: &mut C,
-    report: &mut K,
-) -> Status
-    ensures yes { ends_at_yes result ≡ true → IsTrue (C.tells cabinet.old) → IfSome (C.file cabinet.old name.now) (λ text. found text ≡ Ok Verdict.Yes) }
-    ensures certified { ends_at_yes result ≡ true → IsTrue (C.tells cabinet.old) → IfSome (C.file cabinet.old name.now) CertifiesItsGap }
-    ensures told_yes { result ≡ Status.Done → Appends (K.held report.old) (K.held report.new) (codes "yes\n") }
-    ensures part_of_yes { (result ≡ Status.WriteFault) ⊎ (result ≡ Status.Memory) → AppendsPrefix (K.held report.old) (K.held report.new) (codes "yes\n") }
-    ensures no { result ≡ Status.CheckNo → IsTrue (C.tells cabinet.old) → IfSome (C.file cabinet.old name.now) (λ text. found text ≢ Ok Verdict.Yes) }
-    ensures told_no { result ≡ Status.CheckNo → IsTrue (C.tells cabinet.old) → IfSome (C.file cabinet.old name.now) (λ text. AppendsPrefix (K.held report.old) (K.held report.new) (verdict_text text)) }
-    ensures read_within { ends_at_verdict result ≡ true → IsTrue (C.tells cabinet.old) → IfSome (C.file cabinet.old name.now) (λ text. length text ≤ 1048576) }
-    ensures read_ended { ends_at_verdict result ≡ true → IsTrue (C.tells cabinet.old) → IfSome (C.file cabinet.old name.now) (λ text. C.rest cabinet.new name.now ≡ 0) }
-    ensures open_line { result ≡ Status.OpenFault → AppendsPrefix (K.held report.old) (K.held report.new) (named_line (codes "open") name.now) }
-    ensures read_line { result ≡ Status.ReadFault → AppendsPrefix (K.held report.old) (K.held report.new) (named_line (codes "read") name.now) }
-    ensures too_much_line { result ≡ Status.TooMuch → AppendsPrefix (K.held report.old) (K.held report.new) (named_line (codes "toomuch") name.now) }
-    ensures open_fault { result ≡ Status.OpenFault → Rose (C.open_faults cabinet.old name.now) (C.open_faults cabinet.new name.now) }
-    ensures read_fault { result ≡ Status.ReadFault → Rose (C.read_faults cabinet.old name.now) (C.read_faults cabinet.new name.now) }
-    ensures write_fault { result ≡ Status.WriteFault → Rose (K.faults report.old) (K.faults report.new) }
-    ensures too_much { result ≡ Status.TooMuch → IsTrue (C.tells cabinet.old) → IfSome (C.file cabinet.old name.now) (λ text. 1048576 + C.rest cabinet.new name.now < length text) }
-    ensures ends { ends_a_check result ≡ true }
-    ensures files { SameAtAll (C.file cabinet.old) (C.file cabinet.new) }
-    ensures other_rests { SameAtOthers (C.rest cabinet.old) (C.rest cabinet.new) name.now }
-    ensures other_opens { SameAtOthers (C.open_faults cabinet.old) (C.open_faults cabinet.new) name.now }
-    ensures other_reads { SameAtOthers (C.read_faults cabinet.old) (C.read_faults cabinet.new) name.now }
-    ensures creates { SameAtAll (C.create_faults cabinet.old) (C.create_faults cabinet.new) }
-    ensures writes { SameAtAll (C.write_faults cabinet.old) (C.write_faults cabinet.new) }
+/// Carries out the command `check` with a file's name: reads the certificate, at most 2^20 bytes, and reports the
+/// verdict on it.
+fn check<C: Cabinet, K: Sink>(alloc: Global, name: &str, cabinet: &mut C, report: &mut K) -> Status
+    ensures { IsCheckEnd (C.shelves cabinet.old) (C.shelves cabinet.new)
+        (K.paper report.old) (K.paper report.new) name.now result }
 {
     match read_file(alloc, cabinet, name, LIMIT) {
         Ok(text) => tell_found(alloc, &text, report),
@@ -122,28 +111,23 @@ fn check_by_clauses<C: Cabinet, K: Sink>(
     }
 }
 
-/// Carries out the command `check` with a file's name: reads the certificate, at most 2^20 bytes, and reports the verdict on it.
-fn check<C: Cabinet, K: Sink>(alloc: Global, name: &str, cabinet: &mut C, report: &mut K) -> Status
-    ensures end { IsCheckEnd (record { opens = C.open_faults cabinet.old; creates = C.create_faults cabinet.old; reads = C.read_faults cabinet.old; writes = C.write_faults cabinet.old; tells = C.tells cabinet.old; file = C.file cabinet.old; rest = C.rest cabinet.old }) (record { opens = C.open_faults cabinet.new; creates = C.create_faults cabinet.new; reads = C.read_faults cabinet.new; writes = C.write_faults cabinet.new; tells = C.tells cabinet.new; file = C.file cabinet.new; rest = C.rest cabinet.new }) (record { held = K.held report.old; faults = K.faults report.old }) (record { held = K.held report.new; faults = K.faults report.new }) name.now result }
-    ensures complete { CheckCompletes (record { opens = C.open_faults cabinet.old; creates = C.create_faults cabinet.old; reads = C.read_faults cabinet.old; writes = C.write_faults cabinet.old; tells = C.tells cabinet.old; file = C.file cabinet.old; rest = C.rest cabinet.old }) (record { opens = C.open_faults cabinet.new; creates = C.create_faults cabinet.new; reads = C.read_faults cabinet.new; writes = C.write_faults cabinet.new; tells = C.tells cabinet.new; file = C.file cabinet.new; rest = C.rest cabinet.new }) (record { held = K.held report.old; faults = K.faults report.old }) (record { held = K.held report.new; faults = K.faults report.new }) name.now result }
-{
-    check_by_clauses(alloc, name, cabinet, report)
-}
-
-/// Carries out the command `check CERT`: reads the certificate, at most 2^20 bytes, and reports the verdict on it. `Done` is the answer exactly
-/// where the verdict is yes and its line was written, `CheckNo` where the certificate was read to its end and the verdict isn't yes.
+/// Carries out the command `check CERT`: reads the certificate, at most 2^20 bytes, and reports the verdict on it.
+/// `Done` is the answer exactly where the verdict is yes and its line was written, `CheckNo` where the certificate was
+/// read to its end and the verdict isn't yes.
 pub fn run_check<C: Cabinet, K: Sink>(
     alloc: Global,
     words: &[&str],
     cabinet: &mut C,
     report: &mut K,
 ) -> Status
-    ensures usage { result ≡ Status.Usage → is_check (map (λ word. word.now) words.now) ≡ false }
-    ensures form { is_check (map (λ word. word.now) words.now) ≡ false → result ≡ Status.Usage }
+    ensures usage { result ≡ Status.Usage → is_check (words_in words.now) ≡ false }
+    ensures form { is_check (words_in words.now) ≡ false → result ≡ Status.Usage }
     ensures untouched { result ≡ Status.Usage → cabinet.new ≡ cabinet.old }
-    ensures told { result ≡ Status.Usage → AppendsPrefix (K.held report.old) (K.held report.new) (codes "usage\n") }
-    ensures ends { is_check (map (λ word. word.now) words.now) ≡ true → OnCheck (map (λ word. word.now) words.now) (λ name. IsCheckEnd (record { opens = C.open_faults cabinet.old; creates = C.create_faults cabinet.old; reads = C.read_faults cabinet.old; writes = C.write_faults cabinet.old; tells = C.tells cabinet.old; file = C.file cabinet.old; rest = C.rest cabinet.old }) (record { opens = C.open_faults cabinet.new; creates = C.create_faults cabinet.new; reads = C.read_faults cabinet.new; writes = C.write_faults cabinet.new; tells = C.tells cabinet.new; file = C.file cabinet.new; rest = C.rest cabinet.new }) (record { held = K.held report.old; faults = K.faults report.old }) (record { held = K.held report.new; faults = K.faults report.new }) name result) }
-    ensures completes { is_check (map (λ word. word.now) words.now) ≡ true → OnCheck (map (λ word. word.now) words.now) (λ name. CheckCompletes (record { opens = C.open_faults cabinet.old; creates = C.create_faults cabinet.old; reads = C.read_faults cabinet.old; writes = C.write_faults cabinet.old; tells = C.tells cabinet.old; file = C.file cabinet.old; rest = C.rest cabinet.old }) (record { opens = C.open_faults cabinet.new; creates = C.create_faults cabinet.new; reads = C.read_faults cabinet.new; writes = C.write_faults cabinet.new; tells = C.tells cabinet.new; file = C.file cabinet.new; rest = C.rest cabinet.new }) (record { held = K.held report.old; faults = K.faults report.old }) (record { held = K.held report.new; faults = K.faults report.new }) name result) }
+    ensures told { result ≡ Status.Usage →
+        Writes (K.paper report.old) (K.paper report.new) (codes "usage\n") }
+    ensures ends { OnCheck (words_in words.now) (λ name.
+        IsCheckEnd (C.shelves cabinet.old) (C.shelves cabinet.new)
+        (K.paper report.old) (K.paper report.new) name result) }
 {
     match words {
         [word, name] => {
@@ -158,3 +142,9 @@ pub fn run_check<C: Cabinet, K: Sink>(
         _ => tell_usage(report),
     }
 }
+
+/// Law: where no count of the certificate or of the report rose, and the certificate is within its limit, an end of
+/// `check` is at a verdict or for want of memory.
+pub fn checks_complete()
+    ensures { ChecksComplete }
+{}

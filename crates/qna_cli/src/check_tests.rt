@@ -307,8 +307,8 @@ fn words_of_check_have_one_form(rt: HostRuntime) -> Result<(), Fail> {
     ] {
         let mut paper = MemSink::new(alloc, 4096, Vec::new(alloc));
         let ended = run(&rt, alloc, words, &mut cabinet, &mut paper, &OpenGate);
-        assert_eq!(rt; ended, status);
-        assert_eq!(rt; paper.held(), report);
+        assert_eq!(rt; ended, status, "{words:?}");
+        assert_eq!(rt; paper.held(), report, "{words:?}");
     }
     Ok(())
 }

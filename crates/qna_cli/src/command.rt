@@ -1,17 +1,17 @@
 //! The program's words, and the command that they name.
 
-ghost use Rattle.std.specs.Prelude.{◌≡◌, ◌≢◌, List, ℕ, map, true, false, codes};
-ghost use Rattle.qna_edges.specs.Told.{AppendsPrefix};
-ghost use Rattle.qna_cli.specs.Command.{is_file_name as is_file_name_of, are_file_names as are_file_names_of, is_batch};
-ghost use Rattle.qna_cli.specs.BatchEnd.{OnBatch, IsBatchEnd, Completes};
-ghost use Rattle.qna_cli.specs.Check.{is_check, OnCheck, begins_check};
-ghost use Rattle.qna_cli.specs.CheckEnd.{IsCheckEnd, CheckCompletes};
+ghost use Rattle.std.specs.Prelude.{◌≡◌, ◌≢◌, List, ℕ, true, false, codes};
+ghost use Rattle.qna_edges.specs.Paper.{Writes};
+ghost use Rattle.qna_cli.specs.Command.{words_in, is_batch, OnBatch, is_check, OnCheck, begins_check};
+ghost use Rattle.qna_cli.specs.Command.{is_file_name as is_file_name_of, are_file_names as are_file_names_of};
+ghost use Rattle.qna_cli.specs.Batch.{IsBatchEnd};
+ghost use Rattle.qna_cli.specs.CheckEnd.{IsCheckEnd};
 ghost use Rattle.qna_cli.specs.Release.{ReleasesAreCertified};
 
-use crate::batch::batch;
 use crate::check::run_check;
+use crate::release::Releases;
 use qna_edges::{Cabinet, Gate, Sink, Status};
-use qna_parts::tell_usage;
+use qna_parts::{carry_out, tell_usage};
 use std::alloc::Global;
 use std::sync::Wait;
 use std::thread::Threads;
@@ -43,7 +43,7 @@ fn are_file_names(plan: &str, input: &str, output: &str) -> bool
 
 /// Whether the first word is `check`.
 fn names_check(words: &[&str]) -> bool
-    ensures { result ≡ begins_check (map (λ word. word.now) words.now) }
+    ensures { result ≡ begins_check (words_in words.now) }
 {
     match words {
         [word, ..] => *word == "check",
@@ -51,8 +51,8 @@ fn names_check(words: &[&str]) -> bool
     }
 }
 
-/// Does all that the program does, by its words: `batch PLAN INPUT OUTPUT` or `check CERT`; words of any other form are `Usage`. The runtime and the
-/// gate serve commands whose desks wait for one another; no such command stands yet.
+/// Does all that the program does, by its words: `batch PLAN INPUT OUTPUT` or `check CERT`; words of any other form are
+/// `Usage`. The runtime and the gate serve commands whose desks wait for one another; no such command stands yet.
 #[tactic(auto, using(crate::proofs::Certified::releases_are_certified, crate::proofs::Branches::branches))]
 pub fn run<R: Threads + Wait, C: Cabinet, K: Sink, G: Gate>(
     _rt: &R,
@@ -62,15 +62,20 @@ pub fn run<R: Threads + Wait, C: Cabinet, K: Sink, G: Gate>(
     report: &mut K,
     _gate: &G,
 ) -> Status
-    ensures usage { result ≡ Status.Usage → (is_batch (map (λ word. word.now) words.now) ≡ false) × (is_check (map (λ word. word.now) words.now) ≡ false) }
-    ensures form { is_batch (map (λ word. word.now) words.now) ≡ false → is_check (map (λ word. word.now) words.now) ≡ false → result ≡ Status.Usage }
+    ensures usage { result ≡ Status.Usage →
+        (is_batch (words_in words.now) ≡ false) × (is_check (words_in words.now) ≡ false) }
+    ensures form { is_batch (words_in words.now) ≡ false → is_check (words_in words.now) ≡ false
+        → result ≡ Status.Usage }
     ensures untouched { result ≡ Status.Usage → cabinet.new ≡ cabinet.old }
-    ensures told { result ≡ Status.Usage → AppendsPrefix (K.held report.old) (K.held report.new) (codes "usage\n") }
+    ensures told { result ≡ Status.Usage →
+        Writes (K.paper report.old) (K.paper report.new) (codes "usage\n") }
     ensures certified { ReleasesAreCertified }
-    ensures ends { is_batch (map (λ word. word.now) words.now) ≡ true → OnBatch (map (λ word. word.now) words.now) (λ plan input output. IsBatchEnd (record { opens = C.open_faults cabinet.old; creates = C.create_faults cabinet.old; reads = C.read_faults cabinet.old; writes = C.write_faults cabinet.old; tells = C.tells cabinet.old; file = C.file cabinet.old; rest = C.rest cabinet.old }) (record { opens = C.open_faults cabinet.new; creates = C.create_faults cabinet.new; reads = C.read_faults cabinet.new; writes = C.write_faults cabinet.new; tells = C.tells cabinet.new; file = C.file cabinet.new; rest = C.rest cabinet.new }) (record { held = K.held report.old; faults = K.faults report.old }) (record { held = K.held report.new; faults = K.faults report.new }) plan input output result) }
-    ensures completes { is_batch (map (λ word. word.now) words.now) ≡ true → OnBatch (map (λ word. word.now) words.now) (λ plan input output. Completes (record { opens = C.open_faults cabinet.old; creates = C.create_faults cabinet.old; reads = C.read_faults cabinet.old; writes = C.write_faults cabinet.old; tells = C.tells cabinet.old; file = C.file cabinet.old; rest = C.rest cabinet.old }) (record { opens = C.open_faults cabinet.new; creates = C.create_faults cabinet.new; reads = C.read_faults cabinet.new; writes = C.write_faults cabinet.new; tells = C.tells cabinet.new; file = C.file cabinet.new; rest = C.rest cabinet.new }) (record { held = K.held report.old; faults = K.faults report.old }) (record { held = K.held report.new; faults = K.faults report.new }) plan input output result) }
-    ensures checked { is_check (map (λ word. word.now) words.now) ≡ true → OnCheck (map (λ word. word.now) words.now) (λ name. IsCheckEnd (record { opens = C.open_faults cabinet.old; creates = C.create_faults cabinet.old; reads = C.read_faults cabinet.old; writes = C.write_faults cabinet.old; tells = C.tells cabinet.old; file = C.file cabinet.old; rest = C.rest cabinet.old }) (record { opens = C.open_faults cabinet.new; creates = C.create_faults cabinet.new; reads = C.read_faults cabinet.new; writes = C.write_faults cabinet.new; tells = C.tells cabinet.new; file = C.file cabinet.new; rest = C.rest cabinet.new }) (record { held = K.held report.old; faults = K.faults report.old }) (record { held = K.held report.new; faults = K.faults report.new }) name result) }
-    ensures check_completes { is_check (map (λ word. word.now) words.now) ≡ true → OnCheck (map (λ word. word.now) words.now) (λ name. CheckCompletes (record { opens = C.open_faults cabinet.old; creates = C.create_faults cabinet.old; reads = C.read_faults cabinet.old; writes = C.write_faults cabinet.old; tells = C.tells cabinet.old; file = C.file cabinet.old; rest = C.rest cabinet.old }) (record { opens = C.open_faults cabinet.new; creates = C.create_faults cabinet.new; reads = C.read_faults cabinet.new; writes = C.write_faults cabinet.new; tells = C.tells cabinet.new; file = C.file cabinet.new; rest = C.rest cabinet.new }) (record { held = K.held report.old; faults = K.faults report.old }) (record { held = K.held report.new; faults = K.faults report.new }) name result) }
+    ensures ends { OnBatch (words_in words.now) (λ plan input output.
+        IsBatchEnd (C.shelves cabinet.old) (C.shelves cabinet.new)
+        (K.paper report.old) (K.paper report.new) plan input output result) }
+    ensures checked { OnCheck (words_in words.now) (λ name.
+        IsCheckEnd (C.shelves cabinet.old) (C.shelves cabinet.new)
+        (K.paper report.old) (K.paper report.new) name result) }
 {
     if names_check(words) {
         return run_check(alloc, words, cabinet, report);
@@ -78,8 +83,8 @@ pub fn run<R: Threads + Wait, C: Cabinet, K: Sink, G: Gate>(
     run_batch(alloc, words, cabinet, report)
 }
 
-/// Carries out the command `batch PLAN INPUT OUTPUT`: reads the plan, at most 2^20 bytes, takes the input, at most 2^30 bytes, line by line, reports each
-/// refused line of it, and writes the release of all accepted inputs to the output.
+/// Carries out the command `batch PLAN INPUT OUTPUT`: reads the plan, at most 2^20 bytes, takes the input, at most 2^30
+/// bytes, line by line, reports each refused line of it, and writes the release of all accepted inputs to the output.
 #[tactic(auto, using(crate::proofs::Certified::releases_are_certified))]
 pub fn run_batch<C: Cabinet, K: Sink>(
     alloc: Global,
@@ -87,13 +92,15 @@ pub fn run_batch<C: Cabinet, K: Sink>(
     cabinet: &mut C,
     report: &mut K,
 ) -> Status
-    ensures usage { result ≡ Status.Usage → is_batch (map (λ word. word.now) words.now) ≡ false }
-    ensures form { is_batch (map (λ word. word.now) words.now) ≡ false → result ≡ Status.Usage }
+    ensures usage { result ≡ Status.Usage → is_batch (words_in words.now) ≡ false }
+    ensures form { is_batch (words_in words.now) ≡ false → result ≡ Status.Usage }
     ensures untouched { result ≡ Status.Usage → cabinet.new ≡ cabinet.old }
-    ensures told { result ≡ Status.Usage → AppendsPrefix (K.held report.old) (K.held report.new) (codes "usage\n") }
+    ensures told { result ≡ Status.Usage →
+        Writes (K.paper report.old) (K.paper report.new) (codes "usage\n") }
     ensures certified { ReleasesAreCertified }
-    ensures ends { is_batch (map (λ word. word.now) words.now) ≡ true → OnBatch (map (λ word. word.now) words.now) (λ plan input output. IsBatchEnd (record { opens = C.open_faults cabinet.old; creates = C.create_faults cabinet.old; reads = C.read_faults cabinet.old; writes = C.write_faults cabinet.old; tells = C.tells cabinet.old; file = C.file cabinet.old; rest = C.rest cabinet.old }) (record { opens = C.open_faults cabinet.new; creates = C.create_faults cabinet.new; reads = C.read_faults cabinet.new; writes = C.write_faults cabinet.new; tells = C.tells cabinet.new; file = C.file cabinet.new; rest = C.rest cabinet.new }) (record { held = K.held report.old; faults = K.faults report.old }) (record { held = K.held report.new; faults = K.faults report.new }) plan input output result) }
-    ensures completes { is_batch (map (λ word. word.now) words.now) ≡ true → OnBatch (map (λ word. word.now) words.now) (λ plan input output. Completes (record { opens = C.open_faults cabinet.old; creates = C.create_faults cabinet.old; reads = C.read_faults cabinet.old; writes = C.write_faults cabinet.old; tells = C.tells cabinet.old; file = C.file cabinet.old; rest = C.rest cabinet.old }) (record { opens = C.open_faults cabinet.new; creates = C.create_faults cabinet.new; reads = C.read_faults cabinet.new; writes = C.write_faults cabinet.new; tells = C.tells cabinet.new; file = C.file cabinet.new; rest = C.rest cabinet.new }) (record { held = K.held report.old; faults = K.faults report.old }) (record { held = K.held report.new; faults = K.faults report.new }) plan input output result) }
+    ensures ends { OnBatch (words_in words.now) (λ plan input output.
+        IsBatchEnd (C.shelves cabinet.old) (C.shelves cabinet.new)
+        (K.paper report.old) (K.paper report.new) plan input output result) }
 {
     match words {
         [word, plan, input, output] => {
@@ -103,15 +110,16 @@ pub fn run_batch<C: Cabinet, K: Sink>(
             if !are_file_names(plan, input, output) {
                 return tell_usage(report);
             }
-            batch(alloc, plan, input, output, cabinet, report)
+            carry_out(alloc, &Releases, plan, input, output, cabinet, report)
         }
         _ => tell_usage(report),
     }
 }
 
-/// Law: whatever the plan and the accepted inputs, in every release each leaf's quarters add up to the benchmarks of its benchmarked years, no series that meets
-/// these benchmarks has a sum of squared ratio changes smaller by more than the printed gap, and each item's chained volumes are the products of its annual links
-/// up to the printed drift, with quarters that add up to the level of a complete year.
+/// Law: whatever the plan and the accepted inputs, in every release each leaf's quarters add up to the benchmarks of
+/// its benchmarked years, no series that meets these benchmarks has a sum of squared ratio changes smaller by more than
+/// the printed gap, and each item's chained volumes are the products of its annual links up to the printed drift, with
+/// quarters that add up to the level of a complete year.
 pub fn releases_are_certified()
     ensures { ReleasesAreCertified }
 {}

@@ -1,26 +1,35 @@
 //! The release: every item compiled from the tables, and its text.
 
 ghost use Rattle.std.specs.Prelude.{◌≡◌, ◌<◌, ℕ, List, length, IfOk};
-ghost use Rattle.series_tables.specs.LastValue.{last_value};
-ghost use Rattle.series_tables.specs.Cells.{cell};
 ghost use Rattle.series_tables.specs.declared.input.Input.{Input as InputOf};
-ghost use Rattle.series_tables.specs.declared.input.Kind.{Kind as KindOf};
+ghost use Rattle.qna_parts.specs.Making.{HoldsLast};
 ghost use Rattle.qna_cli.specs.Release.{release_of};
 
 use node_compile::compile_all;
 use qna_base::{Memory, Steps};
+use qna_parts::Make;
 use release_print::print_release;
 use series_tables::{Plan, Tables};
 use std::alloc::Global;
 use std::marker::Brand;
 use std::sync::ledger::{Blank, Ledger};
 
-/// The text of the release of all inputs that the tables were given: its number is theirs.
-pub fn release(alloc: Global, plan: &Plan, tables: &Tables, inputs: u64) -> Result<Vec<u8>, Memory>
-    requires { tables.now.items ≡ length plan.now.names }
-    ensures { IfOk result (λ text. (given : List InputOf) → length given ≡ inputs → ((kind : KindOf) (leaf period : ℕ) → cell tables.now kind leaf period ≡ last_value given kind leaf period) → text.items ≡ release_of plan.now given) }
-{
-    counted_release::<Brand>(alloc, Blank::new(1), plan, tables, inputs)
+/// What `batch` makes: the release of all accepted inputs. Its number is theirs.
+#[derive(Clone, Copy)]
+pub(crate) struct Releases;
+
+impl Make for Releases {
+    ghost text = { λ _. release_of };
+
+    fn make(
+        &self,
+        alloc: Global,
+        plan: &Plan,
+        tables: &Tables,
+        inputs: u64,
+    ) -> Result<Vec<u8>, Memory> {
+        counted_release::<Brand>(alloc, Blank::new(1), plan, tables, inputs)
+    }
 }
 
 /// The same, with a ledger for the solver's steps, which nobody asks for.
@@ -36,7 +45,8 @@ fn counted_release<L: Ledger>(
     requires parts { blank.parts ≡ L.parts }
     requires some { 0 < blank.parts }
     requires items { tables.now.items ≡ length plan.now.names }
-    ensures { IfOk result (λ text. (given : List InputOf) → length given ≡ inputs → ((kind : KindOf) (leaf period : ℕ) → cell tables.now kind leaf period ≡ last_value given kind leaf period) → text.items ≡ release_of plan.now given) }
+    ensures { IfOk result (λ text. (given : List InputOf) → length given ≡ inputs →
+        HoldsLast tables.now given → text.items ≡ release_of plan.now given) }
 {
     let mut steps = Steps::<L>::open(blank);
     let compiled = compile_all(alloc, plan, tables, inputs, &mut steps)?;

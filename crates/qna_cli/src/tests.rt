@@ -3,6 +3,7 @@ ghost use Rattle.std.specs.Prelude.{◌<◌};
 
 mod certificates;
 mod faults;
+mod files;
 mod limits;
 mod office;
 mod pieces;
@@ -76,20 +77,20 @@ fn left_by_batch(alloc: Global, plan: &[u8], input: &[u8], devices: &Devices) ->
     })
 }
 
-/// Asserts what a command left; no output is none at all.
+/// Asserts what a command left in the case of this name; no output is none at all.
 fn assert_left(
     rt: &impl Abort,
     left: &Left,
+    name: &str,
     status: u8,
     output: Option<&[u8]>,
     report: &[u8],
 ) -> Result<(), Fail> {
-    assert_eq!(rt; left.report.as_slice(), report);
-    assert_eq!(rt; left.status.number(), status);
-    match (&left.output, output) {
-        (Some(held), Some(wanted)) => assert_eq!(rt; held.as_slice(), wanted),
-        (None, None) => {}
-        _ => return Err("an output stands, or none does, against what is wanted".into()),
+    assert_eq!(rt; left.report.as_slice(), report, "{name}");
+    assert_eq!(rt; left.status.number(), status, "{name}");
+    assert_eq!(rt; left.output.is_some(), output.is_some(), "{name}");
+    if let (Some(held), Some(wanted)) = (&left.output, output) {
+        assert_eq!(rt; held.as_slice(), wanted, "{name}");
     }
     Ok(())
 }

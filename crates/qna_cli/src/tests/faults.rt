@@ -16,8 +16,9 @@ const INPUT: &[u8] = b"bench,FOOD,2085,1400\nsync,1\n";
 /// The report of the two.
 const REFUSED: &[u8] = b"1,no,range\n2,no,form\n";
 
-/// Devices, and the status, the output and the report that they lead to.
+/// Devices by a name, and the status, the output and the report that they lead to.
 struct FaultCase<'a> {
+    name: &'a str,
     devices: Devices<'a>,
     status: u8,
     output: Option<&'a [u8]>,
@@ -29,7 +30,7 @@ fn assert_faults(rt: &impl Abort, alloc: Global, cases: &[FaultCase]) -> Result<
     for case in cases {
         assert!(rt; case.devices.piece > 0);
         let left = left_by_batch(alloc, FOOD_PLAN, INPUT, &case.devices)?;
-        assert_left(rt, &left, case.status, case.output, case.report)?;
+        assert_left(rt, &left, case.name, case.status, case.output, case.report)?;
     }
     Ok(())
 }
@@ -41,6 +42,7 @@ fn a_file_that_cant_be_opened_is_named(rt: HostRuntime) -> Result<(), Fail> {
         rt.alloc(),
         &[
             FaultCase {
+                name: "the plan can't be opened",
                 devices: Devices {
                     opens: &[1],
                     ..WORKING
@@ -50,6 +52,7 @@ fn a_file_that_cant_be_opened_is_named(rt: HostRuntime) -> Result<(), Fail> {
                 report: b"open,p\n",
             },
             FaultCase {
+                name: "the input can't be opened",
                 devices: Devices {
                     opens: &[2],
                     ..WORKING
@@ -59,6 +62,7 @@ fn a_file_that_cant_be_opened_is_named(rt: HostRuntime) -> Result<(), Fail> {
                 report: b"open,i\n",
             },
             FaultCase {
+                name: "the output can't be created",
                 devices: Devices {
                     opens: &[3],
                     ..WORKING
@@ -68,6 +72,7 @@ fn a_file_that_cant_be_opened_is_named(rt: HostRuntime) -> Result<(), Fail> {
                 report: b"open,o\n",
             },
             FaultCase {
+                name: "nor can the line of the plan be written",
                 devices: Devices {
                     opens: &[1],
                     report: &[1],
@@ -78,6 +83,7 @@ fn a_file_that_cant_be_opened_is_named(rt: HostRuntime) -> Result<(), Fail> {
                 report: b"",
             },
             FaultCase {
+                name: "the line of the input breaks off",
                 devices: Devices {
                     opens: &[2],
                     report: &[3],
@@ -99,6 +105,7 @@ fn a_read_that_fails_names_its_file(rt: HostRuntime) -> Result<(), Fail> {
         rt.alloc(),
         &[
             FaultCase {
+                name: "the plan's first read fails",
                 devices: Devices {
                     plan: &[1],
                     ..WORKING
@@ -108,6 +115,7 @@ fn a_read_that_fails_names_its_file(rt: HostRuntime) -> Result<(), Fail> {
                 report: b"read,p\n",
             },
             FaultCase {
+                name: "the plan's third read fails",
                 devices: Devices {
                     plan: &[3],
                     piece: 2,
@@ -118,6 +126,7 @@ fn a_read_that_fails_names_its_file(rt: HostRuntime) -> Result<(), Fail> {
                 report: b"read,p\n",
             },
             FaultCase {
+                name: "the input's first read fails",
                 devices: Devices {
                     input: &[1],
                     ..WORKING
@@ -127,6 +136,7 @@ fn a_read_that_fails_names_its_file(rt: HostRuntime) -> Result<(), Fail> {
                 report: b"read,i\n",
             },
             FaultCase {
+                name: "the input's ninth read fails",
                 devices: Devices {
                     input: &[9],
                     piece: 2,
@@ -137,6 +147,7 @@ fn a_read_that_fails_names_its_file(rt: HostRuntime) -> Result<(), Fail> {
                 report: b"read,i\n",
             },
             FaultCase {
+                name: "a read fails before the first line feed",
                 devices: Devices {
                     input: &[2],
                     piece: 20,
@@ -147,6 +158,7 @@ fn a_read_that_fails_names_its_file(rt: HostRuntime) -> Result<(), Fail> {
                 report: b"read,i\n",
             },
             FaultCase {
+                name: "a read fails behind the first line feed",
                 devices: Devices {
                     input: &[2],
                     piece: 21,
@@ -157,6 +169,7 @@ fn a_read_that_fails_names_its_file(rt: HostRuntime) -> Result<(), Fail> {
                 report: b"1,no,range\nread,i\n",
             },
             FaultCase {
+                name: "a read fails before the last line feed",
                 devices: Devices {
                     input: &[2],
                     piece: 27,
@@ -167,6 +180,7 @@ fn a_read_that_fails_names_its_file(rt: HostRuntime) -> Result<(), Fail> {
                 report: b"1,no,range\nread,i\n",
             },
             FaultCase {
+                name: "a read fails behind the last line feed",
                 devices: Devices {
                     input: &[2],
                     piece: 28,
@@ -177,6 +191,7 @@ fn a_read_that_fails_names_its_file(rt: HostRuntime) -> Result<(), Fail> {
                 report: b"1,no,range\n2,no,form\nread,i\n",
             },
             FaultCase {
+                name: "nor can the line of the read be written",
                 devices: Devices {
                     input: &[1],
                     report: &[1],
@@ -197,6 +212,7 @@ fn a_write_that_fails_leaves_a_beginning(rt: HostRuntime) -> Result<(), Fail> {
         rt.alloc(),
         &[
             FaultCase {
+                name: "the output's first write fails",
                 devices: Devices {
                     output: &[1],
                     ..WORKING
@@ -206,6 +222,7 @@ fn a_write_that_fails_leaves_a_beginning(rt: HostRuntime) -> Result<(), Fail> {
                 report: b"1,no,range\n2,no,form\nwrite,o\n",
             },
             FaultCase {
+                name: "the output's third write fails",
                 devices: Devices {
                     output: &[3],
                     piece: 4,
@@ -216,6 +233,7 @@ fn a_write_that_fails_leaves_a_beginning(rt: HostRuntime) -> Result<(), Fail> {
                 report: b"1,no,range\n2,no,form\nwrite,o\n",
             },
             FaultCase {
+                name: "nor can the line of the write be written",
                 devices: Devices {
                     output: &[1],
                     report: &[2],
@@ -226,6 +244,7 @@ fn a_write_that_fails_leaves_a_beginning(rt: HostRuntime) -> Result<(), Fail> {
                 report: REFUSED,
             },
             FaultCase {
+                name: "the report's first write fails",
                 devices: Devices {
                     report: &[1],
                     ..WORKING
@@ -235,6 +254,7 @@ fn a_write_that_fails_leaves_a_beginning(rt: HostRuntime) -> Result<(), Fail> {
                 report: b"",
             },
             FaultCase {
+                name: "the report breaks off within a line",
                 devices: Devices {
                     report: &[2],
                     piece: 4,
@@ -245,6 +265,7 @@ fn a_write_that_fails_leaves_a_beginning(rt: HostRuntime) -> Result<(), Fail> {
                 report: b"1,no",
             },
             FaultCase {
+                name: "the report breaks off between two lines",
                 devices: Devices {
                     report: &[2],
                     piece: 21,
@@ -269,8 +290,8 @@ fn assert_words<R: Abort + Threads + Wait>(
     let mut cabinet = MemCabinet::new(alloc);
     let mut report = MemSink::new(alloc, 4096, Vec::new(alloc));
     let ended = run(rt, alloc, words, &mut cabinet, &mut report, &OpenGate);
-    assert_eq!(rt; ended.number(), status);
-    assert_eq!(rt; report.held(), told);
+    assert_eq!(rt; ended.number(), status, "{words:?}");
+    assert_eq!(rt; report.held(), told, "{words:?}");
 }
 
 #[test]

@@ -38,13 +38,13 @@ fn a_plan_of_more_than_its_limit_is_too_much(rt: HostRuntime) -> Result<(), Fail
     )?;
     assert_eq!(rt; most.len(), 1_048_576);
     let left = left_by_batch(alloc, &most, b"", &WORKING)?;
-    assert_left(&rt, &left, 0, Some(release), b"")?;
+    assert_left(&rt, &left, "the longest plan", 0, Some(release), b"")?;
     let more = repeated(alloc, &most, b"\n", 1)?;
     let left = left_by_batch(alloc, &more, b"", &WORKING)?;
-    assert_left(&rt, &left, 8, None, b"toomuch,p\n")?;
+    assert_left(&rt, &left, "a byte more", 8, None, b"toomuch,p\n")?;
     let refused = repeated(alloc, b"", b"#", 1_048_577)?;
     let left = left_by_batch(alloc, &refused, b"", &WORKING)?;
-    assert_left(&rt, &left, 8, None, b"toomuch,p\n")
+    assert_left(&rt, &left, "one long line", 8, None, b"toomuch,p\n")
 }
 
 #[test]
@@ -54,9 +54,9 @@ fn a_plan_has_512_items_at_most(rt: HostRuntime) -> Result<(), Fail> {
     let release: &[u8] =
         b"release,1\nv,511,2021Q1,missing\nk,511,2021Q1,missing\nc,511,2021Q1,missing\na,511,2021,missing,missing,missing,missing\nend,1\n";
     let left = left_by_batch(alloc, &plan_of_items(alloc, 512)?, input, &WORKING)?;
-    assert_left(&rt, &left, 0, Some(release), b"2,no,unknown\n")?;
+    assert_left(&rt, &left, "512 items", 0, Some(release), b"2,no,unknown\n")?;
     let left = left_by_batch(alloc, &plan_of_items(alloc, 513)?, input, &WORKING)?;
-    assert_left(&rt, &left, 3, None, b"plan,514,toomany\n")
+    assert_left(&rt, &left, "513 items", 3, None, b"plan,514,toomany\n")
 }
 
 #[test]
@@ -80,6 +80,7 @@ fn input_past_the_last_that_is_accepted_is_refused(rt: HostRuntime) -> Result<()
     assert_left(
         &rt,
         &left,
+        "a full input",
         0,
         Some(release),
         b"262145,no,full\n262146,no,full\n262147,no,zero\n262148,no,full\n",

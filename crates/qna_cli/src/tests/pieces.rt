@@ -46,6 +46,7 @@ fn an_input_gives_the_same_in_pieces_of_any_size(rt: HostRuntime) -> Result<(), 
         assert_left(
             &rt,
             &left,
+            "a long input",
             0,
             Some(
                 b"release,7\nv,FOOD,2021Q1,3\nv,FOOD,2021Q2,3\nv,FOOD,2021Q3,2\nv,FOOD,2021Q4,2\nv,FOOD,2022Q1,8\nk,FOOD,2021Q1,missing\nk,FOOD,2021Q2,missing\nk,FOOD,2021Q3,missing\nk,FOOD,2021Q4,missing\nk,FOOD,2022Q1,missing\nc,FOOD,2021Q1,missing\nc,FOOD,2021Q2,missing\nc,FOOD,2021Q3,missing\nc,FOOD,2021Q4,missing\nc,FOOD,2022Q1,missing\na,FOOD,2021,10,missing,100000,0\na,FOOD,2022,missing,missing,missing,missing\ng,FOOD,1,12,1444444444444888888888889\nend,7\n",

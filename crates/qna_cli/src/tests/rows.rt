@@ -11,7 +11,14 @@ fn releases_and_reports_follow_the_rows(rt: HostRuntime) -> Result<(), Fail> {
         for piece in [1, 2, 7, 4096] {
             let devices = Devices { piece, ..WORKING };
             let left = left_by_batch(alloc, case.plan, case.input, &devices)?;
-            assert_left(&rt, &left, case.status, case.release, case.report)?;
+            assert_left(
+                &rt,
+                &left,
+                case.name,
+                case.status,
+                case.release,
+                case.report,
+            )?;
         }
     }
     Ok(())
@@ -24,7 +31,7 @@ fn refused_plans_are_told_with_line_and_cause(rt: HostRuntime) -> Result<(), Fai
         for piece in [1, 4096] {
             let devices = Devices { piece, ..WORKING };
             let left = left_by_batch(alloc, case.plan, b"sync,1\n", &devices)?;
-            assert_left(&rt, &left, PLAN_STATUS, None, case.report)?;
+            assert_left(&rt, &left, "a refused plan", PLAN_STATUS, None, case.report)?;
         }
     }
     Ok(())
@@ -33,5 +40,12 @@ fn refused_plans_are_told_with_line_and_cause(rt: HostRuntime) -> Result<(), Fai
 #[test]
 fn a_plan_that_is_read_lets_the_input_be_read(rt: HostRuntime) -> Result<(), Fail> {
     let left = left_by_batch(rt.alloc(), FOOD_PLAN, b"sync,1\n", &WORKING)?;
-    assert_left(&rt, &left, 0, Some(b"release,0\nend,0\n"), b"1,no,form\n")
+    assert_left(
+        &rt,
+        &left,
+        "a right plan",
+        0,
+        Some(b"release,0\nend,0\n"),
+        b"1,no,form\n",
+    )
 }
