@@ -1,6 +1,5 @@
 pub mod Parts
 pub mod Ends
 pub mod Certified
-pub mod Verdicts
 pub mod CheckEnds
 pub mod Branches

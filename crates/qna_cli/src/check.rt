@@ -7,7 +7,8 @@ ghost use Rattle.qna_edges.specs.Count.{Rose};
 ghost use Rattle.qna_edges.specs.Names.{SameAtAll, SameAtOthers};
 ghost use Rattle.qna_edges.specs.Told.{AppendsPrefix};
 ghost use Rattle.qna_parts.specs.StatusLine.{named_line, pair_line};
-ghost use Rattle.qna_cli.specs.Check.{is_check, OnCheck, found, verdict_text, IsFound, CertifiesItsGap};
+ghost use Rattle.cert_read.specs.Found.{found, IsFound, CertifiesItsGap};
+ghost use Rattle.qna_cli.specs.Check.{is_check, OnCheck, verdict_text};
 ghost use Rattle.qna_cli.specs.CheckEnd.{ends_at_yes, ends_at_verdict, ends_a_check, IsCheckEnd, CheckCompletes};
 
 use crate::command::is_file_name;

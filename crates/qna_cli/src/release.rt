@@ -17,7 +17,7 @@ use std::sync::ledger::{Blank, Ledger};
 
 /// The text of the release of all inputs that the tables were given: its number is theirs.
 pub fn release(alloc: Global, plan: &Plan, tables: &Tables, inputs: u64) -> Result<Vec<u8>, Memory>
-    requires { tables.now.leaves ≡ length plan.now.names }
+    requires { tables.now.items ≡ length plan.now.names }
     ensures { IfOk result (λ text. (given : List InputOf) → length given ≡ inputs → ((kind : KindOf) (leaf period : ℕ) → cell tables.now kind leaf period ≡ last_value given kind leaf period) → text.items ≡ release_of plan.now given) }
 {
     counted_release::<Brand>(alloc, Blank::new(1), plan, tables, inputs)
@@ -35,7 +35,7 @@ fn counted_release<L: Ledger>(
     requires name { blank.name ≡ L.name }
     requires parts { blank.parts ≡ L.parts }
     requires some { 0 < blank.parts }
-    requires leaves { tables.now.leaves ≡ length plan.now.names }
+    requires leaves { tables.now.items ≡ length plan.now.names }
     ensures { IfOk result (λ text. (given : List InputOf) → length given ≡ inputs → ((kind : KindOf) (leaf period : ℕ) → cell tables.now kind leaf period ≡ last_value given kind leaf period) → text.items ≡ release_of plan.now given) }
 {
     let mut steps = Steps::<L>::open(blank);

@@ -1,5 +1,5 @@
 -- What lines give where they follow other lines, and what one line more gives.
-use Rattle.std.proofs.Common.{◌≡◌, ◌≤◌, ◌<◌, ◌+◌, ◌-◌, ◌∙◌, ℕ, ℤ, zero, suc, Bool, true, false, cond, ltb, List, [], ◌∷◌, ◌++◌, length, take, map, Option, Some, None, refl, sym, ap, arith, append_assoc, length-append, add-zero, inl, inr, ◌⊎◌}
+use Rattle.std.proofs.Common.{◌≡◌, ◌≤◌, ◌<◌, ◌+◌, ◌-◌, ◌∙◌, ℕ, ℤ, zero, suc, Bool, true, false, cond, ltb, List, [], ◌∷◌, ◌++◌, length, take, map, Option, Some, None, IfSome, refl, sym, ap, subst, arith, append_assoc, length-append, add-zero, inl, inr, ◌⊎◌}
 use Rattle.std.proofs.lemmas.Bool.{cases_Bool, ltb-true, ltb-false}
 use Rattle.std.proofs.Math.Seq.{take-nil}
 use Rattle.std.proofs.lemmas.List.{append-nil}
@@ -7,6 +7,7 @@ use Rattle.std.specs.List.{filter_map, cons_option}
 use Rattle.std.specs.Option.{option_to_list}
 use Rattle.line_form.specs.Lines.{TextLine}
 use Rattle.series_tables.specs.Plan.{PlanShape}
+use Rattle.series_tables.specs.Fits.{HasRoom, FitsPlan}
 use Rattle.series_tables.specs.LastValue.{last_from, last_value, speaks_of}
 use Rattle.series_tables.specs.Cells.{Rows, cell}
 use Rattle.series_tables.specs.declared.input.Input.{Input}
@@ -16,6 +17,11 @@ use Rattle.input_rules.specs.Lines.{judged_line}
 use Rattle.input_rules.specs.Accepted.{RefusedLine, most_inputs, judged_lines, taken, accepted_of, accepted_next, refused_next, refusals_of, refusals_after}
 use Rattle.input_rules.proofs.MoreLines.{accepted_of-append, refusals_of-append, last_value-append}
 use Rattle.qna_parts.specs.Intake.{refusal_line, refusal_lines, accepted_after, HasTaken}
+
+-- tables of a plan's items have room for an input that fits the plan
+pub room_for : (found : Option Input) (plan : PlanShape) (items : ℕ) → items ≡ length plan.names → IfSome found (FitsPlan plan) → IfSome found (HasRoom items)
+room_for None plan items same fits = tt
+room_for (Some input) plan items same fits = subst (λ (n : ℕ). HasRoom n input) (sym same) fits.room
 
 -- the report lines of two lists of refused lines
 pub refusal_lines-append : (xs ys : List RefusedLine) → refusal_lines (xs ++ ys) ≡ refusal_lines xs ++ refusal_lines ys

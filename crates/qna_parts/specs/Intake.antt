@@ -47,7 +47,7 @@ pub record IsTakenTo (plan : PlanShape) (stream : List ℕ) (lines : Cutting) (r
 
 -- more of an input can be taken: no line waits, and no report line is left to be written
 pub record IsReady (plan : PlanShape) (lines : Cutting) (rows : Rows) (count : ℕ) (unwritten : List ℕ) : Type 0 where
-  pub leaves : rows.leaves ≡ length plan.names
+  pub leaves : rows.items ≡ length plan.names
   pub few : count ≤ 262144
   pub goes_on : lines.ended ≡ false
   pub none_waits : lines.waiting ≡ []

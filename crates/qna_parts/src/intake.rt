@@ -86,7 +86,7 @@ pub fn take_input<S: Source, R: Sink>(
     source: &mut S,
     report: &mut R,
 ) -> Result<Taken, Untaken>
-    ensures leaves { IfOk result (λ taken. taken.tables.leaves ≡ length plan.now.names) }
+    ensures leaves { IfOk result (λ taken. taken.tables.items ≡ length plan.now.names) }
     ensures few { IfOk result (λ taken. taken.accepted ≤ 262144) }
     ensures taken { IfOk result (λ taken. IfSome (S.left source.old) (λ text. HasTaken plan.now (lines_of text) taken.tables taken.accepted)) }
     ensures reported { OnOk result (IfSome (S.left source.old) (λ text. Appends (R.held report.old) (R.held report.new) (refusals_text plan.now text))) }
@@ -170,7 +170,7 @@ fn take_end<R: Sink>(
     report: &mut R,
 ) -> Result<(), Untaken>
     requires ready { IsReady plan.now intake.old.lines intake.old.tables intake.old.accepted intake.old.refused.items }
-    ensures leaves { intake.new.tables.leaves ≡ length plan.now.names }
+    ensures leaves { intake.new.tables.items ≡ length plan.now.names }
     ensures few { OnOk result (intake.new.accepted ≤ 262144) }
     ensures taken { (stream : List ℕ) → IsTakenTo plan.now stream intake.old.lines intake.old.tables intake.old.accepted → OnOk result (HasTaken plan.now (lines_of stream) intake.new.tables intake.new.accepted) }
     ensures reported { (stream : List ℕ) (origin : Option (List ℕ)) → IsTakenTo plan.now stream intake.old.lines intake.old.tables intake.old.accepted → Appends origin (R.held report.old) (ended_refusals_text plan.now stream) → OnOk result (Appends origin (R.held report.new) (refusals_text plan.now stream)) }
@@ -190,10 +190,10 @@ fn take_lines<R: Sink>(
     intake: &mut Intake,
     report: &mut R,
 ) -> Result<(), Untaken>
-    requires leaves { intake.old.tables.leaves ≡ length plan.now.names }
+    requires leaves { intake.old.tables.items ≡ length plan.now.names }
     requires few { intake.old.accepted ≤ 262144 }
     requires nothing_kept { intake.old.refused.items ≡ [] }
-    ensures leaves { intake.new.tables.leaves ≡ intake.old.tables.leaves }
+    ensures leaves { intake.new.tables.items ≡ intake.old.tables.items }
     ensures few { OnOk result (intake.new.accepted ≤ 262144) }
     ensures nothing_kept { OnOk result (intake.new.refused.items ≡ []) }
     ensures count { OnOk result (intake.new.accepted ≡ intake.old.accepted + length (accepted_after plan.now intake.old.accepted intake.old.lines.waiting)) }

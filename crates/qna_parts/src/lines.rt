@@ -3,7 +3,8 @@
 ghost use Rattle.std.specs.Prelude.{◌≡◌, ◌≤◌, ◌+◌, ◌++◌, [], ◌∷◌, ℕ, List, length, IfOk, OnOk, IfSome};
 ghost use Rattle.std.specs.Option.{option_to_list};
 ghost use Rattle.line_form.specs.Lines.{TextLine, line_view, IsCutOf};
-ghost use Rattle.series_tables.specs.LastValue.{IsFitting, last_from};
+ghost use Rattle.series_tables.specs.Fits.{HasRoom};
+ghost use Rattle.series_tables.specs.LastValue.{last_from};
 ghost use Rattle.series_tables.specs.Cells.{cell};
 ghost use Rattle.series_tables.specs.declared.input.Kind.{Kind as KindOf};
 ghost use Rattle.input_rules.specs.Lines.{judged_line};
@@ -30,9 +31,9 @@ pub fn take_waiting(
     accepted: u64,
     refused: &mut Vec<u8>,
 ) -> Result<u64, Memory>
-    requires leaves { tables.old.leaves ≡ length plan.now.names }
+    requires leaves { tables.old.items ≡ length plan.now.names }
     requires few { accepted ≤ 262144 }
-    ensures leaves { tables.new.leaves ≡ tables.old.leaves }
+    ensures leaves { tables.new.items ≡ tables.old.items }
     ensures few { IfOk result (λ count. count ≤ 262144) }
     ensures count { IfOk result (λ count. count ≡ accepted + length (accepted_after plan.now accepted lines.old.waiting)) }
     ensures cells { OnOk result ((kind : KindOf) (leaf period : ℕ) → cell tables.new kind leaf period ≡ last_from (cell tables.old kind leaf period) (accepted_after plan.now accepted lines.old.waiting) kind leaf period) }
@@ -59,8 +60,8 @@ fn take_judged(
     refused: &mut Vec<u8>,
 ) -> Result<u64, Memory>
     requires few { accepted ≤ 262144 }
-    requires fits { IfSome (taken judged) (IsFitting tables.old.leaves) }
-    ensures leaves { tables.new.leaves ≡ tables.old.leaves }
+    requires fits { IfSome (taken judged) (HasRoom tables.old.items) }
+    ensures leaves { tables.new.items ≡ tables.old.items }
     ensures few { IfOk result (λ count. count ≤ 262144) }
     ensures count { IfOk result (λ count. count ≡ accepted + length (option_to_list (accepted_next accepted judged))) }
     ensures cells { OnOk result ((kind : KindOf) (leaf period : ℕ) → cell tables.new kind leaf period ≡ last_from (cell tables.old kind leaf period) (option_to_list (accepted_next accepted judged)) kind leaf period) }

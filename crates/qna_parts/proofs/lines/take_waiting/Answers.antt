@@ -2,8 +2,12 @@ use Rattle.std.proofs.Common.{◌≡◌, ◌∙◌, ℕ, List, [], ◌∷◌, �
 use Rattle.std.specs.Option.{option_to_list}
 use Rattle.line_form.specs.Lines.{TextLine, line_view, IsCutOf}
 use Rattle.series_tables.specs.Cells.{cell}
-use Rattle.qna_parts.proofs.Taking.{counted_line, reported_line, taken_line, counted_all, reported_all, taken_all}
+use Rattle.input_rules.specs.Accepted.{taken}
+use Rattle.qna_parts.proofs.Taking.{room_for, counted_line, reported_line, taken_line, counted_all, reported_all, taken_all}
 use Rattle.qna_parts.proofs.lines.take_waiting.Goals as goal
+
+pub take_judged-requires-clause-fits : goal.take_judged-requires-clause-fits
+take_judged-requires-clause-fits c = room_for (taken c.in_ok-judged.judged) c.args.plan.now c.lines.tables.items (c.lines.invariant.0 ∙ c.requires.leaves) c.in_ok-judged.ensures.fits
 
 pub lines-preserved : goal.lines-preserved
 lines-preserved c =

@@ -10,7 +10,7 @@ use Rattle.qna_parts.proofs.lines.take_waiting.Given as goal
 -- what came so far, and what the lines that wait give, are what all that waited give
 abbrev pub invariant-lines : goal.invariant-lines
 invariant-lines l =
-    (l.tables.leaves ≡ l.fn.tables.leaves)
+    (l.tables.items ≡ l.fn.tables.items)
     × (l.count ≤ 262144)
     × (l.lines.ended ≡ l.fn.lines.ended)
     × (l.count + length (accepted_after l.plan l.count l.lines.waiting) ≡ l.accepted + length (accepted_after l.plan l.accepted l.fn.lines.waiting))
