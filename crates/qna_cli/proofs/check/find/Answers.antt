@@ -2,7 +2,7 @@ use Rattle.std.proofs.lemmas.Result.{err_from_is_err_and}
 use Rattle.std.proofs.Common.{◌≡◌}
 use Rattle.dual_cert.specs.declared.verdict.Verdict.TheVariants.{Yes}
 use Rattle.cert_read.specs.Reading.{content_of}
-use Rattle.qna_cli.proofs.Verdicts.{verdict_is, found_is, refused_is, certifies}
+use Rattle.cert_read.proofs.Verdicts.{verdict_is, found_is, refused_is, certifies}
 use Rattle.qna_cli.proofs.check.find.Goals as goal
 
 pub returns-in_err-doc-clause-found : goal.returns-in_err-doc-clause-found
