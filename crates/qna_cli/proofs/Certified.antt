@@ -23,11 +23,12 @@ use Rattle.input_rules.specs.Requests.{SpelledInput, Asked, release, release_of,
 use Rattle.input_rules.specs.Requests.{input as asks}
 use Rattle.input_rules.specs.Lines.{judged_input, judged_meaning, judged_line}
 use Rattle.input_rules.specs.Accepted.{most_inputs, judged_lines, taken, accepted_of, accepted}
-use Rattle.input_rules.proofs.AcceptedInputs.{value_range, run_range, indicators_range, benchmarks_range}
+use Rattle.input_rules.proofs.AcceptedInputs.{IsOfKind, value_range, run_range, indicators_range, benchmarks_range}
 use Rattle.node_compile.specs.Laws.{MeetsItsBenchmarks, IsWithinItsGap}
 use Rattle.node_compile.specs.Release.{table_of_leaf, inner_table, values_of_leaves, volumes_of_leaves, item_table, compilation}
 use Rattle.node_compile.specs.Table.{Table}
 use Rattle.node_compile.proofs.Tree.{all_chained}
+use Rattle.node_compile.proofs.Sent.{IsLeafInRange, tables_true}
 use Rattle.node_compile.proofs.Worth.{leaf_worth}
 use Rattle.node_compile.proofs.Items.{cells_count}
 use Rattle.qna_cli.specs.Release.{ReleasesAreCertified}
@@ -58,10 +59,25 @@ item_worth plan text item = by_leaf (is_leaf plan item)
     by_leaf true = leaf_of_text plan text item
     by_leaf false = (tt, tt)
 
+-- the values of a run are above 0
+positive_run : (run : List ℤ) → AllByRecursion (λ value. IsOfKind Indicator value) run → AllByRecursion (λ value. pos 1 ≤ℤ value) run
+positive_run [] each = tt
+positive_run (value ∷ run) each = (each.0.0, positive_run run each.1)
+
+-- what the accepted inputs of a text give for a leaf is in range
+leaf_range : (plan : PlanShape) (text : List ℕ) (leaf : ℕ) → IsLeafInRange (last_value (accepted plan text)) leaf
+leaf_range plan text leaf =
+    let value_at : Kind → ℕ → ℕ → Option ℤ = last_value (accepted plan text) in
+    record {
+      run = positive_run (run_of (value_at Indicator leaf)) (run_range (value_at Indicator leaf) (λ period value. value_range plan text Indicator leaf period value) 256 0);
+      benchmarks = benchmarks_range (value_at Benchmark leaf) (λ period value. value_range plan text Benchmark leaf period value) (length (run_of (value_at Indicator leaf)) / 4) 0;
+    }
+
 -- every release is certified
 pub releases_are_certified : ReleasesAreCertified
 unfolding ReleasesAreCertified compilation
 releases_are_certified plan text = (
+  tables_true (last_value (accepted plan text)) plan (leaf_range plan text),
   All-map MeetsItsBenchmarks (item_table (last_value (accepted plan text)) plan) (range_with_len 0 (length plan.names)) (λ k d inside. (item_worth plan text (get_or (range_with_len 0 (length plan.names)) k d)).0),
   All-map IsWithinItsGap (item_table (last_value (accepted plan text)) plan) (range_with_len 0 (length plan.names)) (λ k d inside. (item_worth plan text (get_or (range_with_len 0 (length plan.names)) k d)).1),
   all_chained (last_value (accepted plan text)) plan,

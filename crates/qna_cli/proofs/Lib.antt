@@ -2,4 +2,3 @@ pub mod Batches
 pub mod Branches
 pub mod Certified
 pub mod CheckEnds
-pub mod Verdicts

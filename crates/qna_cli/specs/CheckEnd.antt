@@ -7,7 +7,8 @@ use Rattle.qna_edges.specs.declared.status.Status.{Status}
 use Rattle.qna_edges.specs.declared.status.Status.TheVariants.{Done, Memory, OpenFault, ReadFault, WriteFault, CheckNo, TooMuch}
 use Rattle.dual_cert.specs.declared.verdict.Verdict.TheVariants.{Yes}
 use Rattle.qna_parts.specs.Trace.{trace_of, IsReadWhole, EndsUnread}
-use Rattle.qna_cli.specs.Check.{found, verdict_text, CertifiesItsGap}
+use Rattle.cert_read.specs.Found.{found, CertifiesItsGap}
+use Rattle.qna_cli.specs.Check.{verdict_text}
 
 -- the most bytes of a certificate
 abbrev pub certificate_limit : ℕ

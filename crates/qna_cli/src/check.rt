@@ -6,7 +6,8 @@ ghost use Rattle.qna_edges.specs.Count.{Rose};
 ghost use Rattle.qna_edges.specs.Paper.{grown, BreaksOff, Writes};
 ghost use Rattle.qna_parts.specs.StatusLine.{named_line, pair_line};
 ghost use Rattle.qna_cli.specs.Command.{words_in, is_check, OnCheck};
-ghost use Rattle.qna_cli.specs.Check.{found, verdict_text, IsFound, CertifiesItsGap};
+ghost use Rattle.cert_read.specs.Found.{found, IsFound, CertifiesItsGap};
+ghost use Rattle.qna_cli.specs.Check.{verdict_text};
 ghost use Rattle.qna_cli.specs.CheckEnd.{ends_at_yes, ends_at_verdict, IsCheckEnd, ChecksComplete};
 
 use crate::command::is_file_name;
