@@ -10,7 +10,8 @@ mod check;
 mod command;
 mod release;
 
-pub use check::run_check;
+pub use batch::{batches_complete, batches_release};
+pub use check::{checks_complete, run_check};
 pub use command::{releases_are_certified, run, run_batch};
 use qna_base::Memory;
 use qna_edges::{FileCabinet, OpenGate, Status, StdoutSink};

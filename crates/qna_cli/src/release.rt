@@ -32,7 +32,7 @@ impl Make for Releases {
     }
 }
 
-/// The same, with a ledger for the solver's steps, which nobody asks for.
+/// The text of the release, with a ledger for the solver's steps, which nobody asks for.
 #[tactic(auto, unfolding(crate::specs::Release::release_of))]
 fn counted_release<L: Ledger>(
     alloc: Global,

@@ -14,7 +14,7 @@ pub struct Failed;
 pub enum Refused {
     /// The device failed. The count of faults that it belongs to rose.
     Failed,
-    /// Want of memory. No count rose.
+    /// Want of memory. No count of faults rose; a sink counts it among its wants.
     Memory,
 }
 
