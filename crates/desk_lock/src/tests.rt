@@ -211,3 +211,19 @@ fn a_lock_that_is_dropped_drops_its_book_once(rt: HostRuntime) -> Result<(), Fai
     assert!(rt; pass.party() == 3 && Arc::strong_count(&token) == 1);
     Ok(())
 }
+
+#[test]
+fn a_pass_sees_that_another_party_made_an_entry(rt: HostRuntime) -> Result<(), Fail> {
+    let token = Arc::new(rt.alloc(), 0u8)?;
+    let log = Log::new(rt.alloc(), 8, token);
+    let (desk, pass) = Desk::new(rt.alloc(), log, 1)?;
+    let Ok((first, mut second)) = desk.split(pass, 2) else {
+        unreachable!()
+    };
+    let before = desk.history_now(&mut second);
+    let first = write(&rt, &desk, first, 0);
+    let after = desk.history_now(&mut second);
+    assert_eq!(rt; (before, after), (0, 1));
+    assert!(rt; first.party() == 1 && second.party() == 2);
+    Ok(())
+}
