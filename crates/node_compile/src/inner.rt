@@ -25,7 +25,7 @@ pub fn compile_inner(alloc: Global, sum: &FlowSum, reference: Year) -> Result<No
         All HasLeaf values → All HasLeaf volumes →
         IsSumOf (map added values) sum.now.value → IsSumOf (map added volumes) sum.now.prev →
         IfOk result (λ table. table_in table ≡
-            inner_table (all_leaves values) (all_leaves volumes) reference.0) }
+        inner_table (all_leaves values) (all_leaves volumes) reference.0) }
 {
     let flows = sum.flows()?;
     chained(alloc, None, flows, reference)

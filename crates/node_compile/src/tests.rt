@@ -87,10 +87,16 @@ fn a_total_is_compiled_with_its_two_leaves(rt: HostRuntime) -> Result<(), Fail> 
     assert!(rt; has_quarters(food, 100, 1_000_000));
     assert!(rt; has_quarters(services, 200, 2_000_000));
     assert!(rt; total.leaf.is_none());
-    assert_eq!(rt; total.chain.level.as_slice(), [Cell::Value(12_000_000)].as_slice());
+    assert_eq!(rt;
+        total.chain.level.as_slice(),
+        [Cell::Value(12_000_000)].as_slice()
+    );
     let Some(part) = &food.leaf else {
         return Err(Fail);
     };
-    assert_eq!(rt; (part.cert.scale, part.cert.u.len(), part.cert.gap), (13, 0, 0));
+    assert_eq!(rt;
+        (part.cert.scale, part.cert.u.len(), part.cert.gap),
+        (13, 0, 0)
+    );
     Ok(())
 }
