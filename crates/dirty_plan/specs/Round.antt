@@ -1,6 +1,7 @@
--- A round's jobs, one for each touched item. A job can be taken once no child of its item has an unfinished job. It is this
--- product's own.
-use Rattle.std.specs.Prelude.{ℕ, suc, ◌<◌, Bool, true, false, not, ◌&&◌, if◌then◌else◌, IsTrue, IsFalse, List, map, drop, slice_index_or, slice_set, count_by, Option, Some, None}
+-- A round's jobs, one for each touched item. A job can be taken once no child of its item has an unfinished job. It is
+-- this product's own.
+use Rattle.std.specs.Prelude.{ℕ, suc, ◌<◌, Bool, true, false, not, ◌&&◌, if◌then◌else◌, IsTrue, IsFalse, List}
+use Rattle.std.specs.Prelude.{map, drop, slice_index_or, slice_set, count_by, Option, Some, None}
 use Rattle.std.specs.List.{list_any}
 use Rattle.series_tables.specs.Plan.{PlanShape}
 use Rattle.series_tables.specs.Tree.{of_children}
@@ -38,13 +39,13 @@ is_unfinished Waiting = true
 is_unfinished Out = true
 is_unfinished Done = false
 
+-- the same of an item among all
+abbrev pub is_left : List JobState → ℕ → Bool
+is_left jobs item = is_unfinished (state_of jobs item)
+
 -- how many jobs there are
 abbrev pub job_count : List JobState → ℕ
 job_count jobs = count_by is_job jobs
-
--- the same for the item of a number
-abbrev pub is_left : List JobState → ℕ → Bool
-is_left jobs item = is_unfinished (state_of jobs item)
 
 -- of what each item has, that of the children of one item, which all stand behind it
 abbrev pub children_of : {X : Type 0} → List (Option ℕ) → ℕ → List X → List X
@@ -58,7 +59,12 @@ has_unfinished_child parents jobs item = list_any is_unfinished (children_of par
 abbrev pub is_ready : List (Option ℕ) → List JobState → ℕ → Bool
 is_ready parents jobs item = is_waiting (state_of jobs item) && not (has_unfinished_child parents jobs item)
 
--- the round with the job of an item elsewhere
+-- whether some child of an item is touched
+abbrev pub has_touched_child : PlanShape → (ℕ → Bool) → ℕ → Bool
+has_touched_child plan is_named item =
+    list_any (is_touched plan is_named) (children_of plan.parents item (items_of plan))
+
+-- the round where the job of an item stands elsewhere
 abbrev pub with_state : RoundShape → ℕ → JobState → RoundShape
 with_state round item state = record { parents = round.parents; jobs = slice_set round.jobs item state }
 
@@ -69,7 +75,7 @@ first_state touched = if touched then Waiting else Clean
 unfoldable pub opened_jobs : PlanShape → (ℕ → Bool) → List JobState
 opened_jobs plan is_named = map (λ item. first_state (is_touched plan is_named item)) (items_of plan)
 
--- the round that begins with them
+-- the round that begins, with these jobs
 abbrev pub opened_round : PlanShape → (ℕ → Bool) → RoundShape
 opened_round plan is_named = record { parents = plan.parents; jobs = opened_jobs plan is_named }
 

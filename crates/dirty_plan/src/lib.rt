@@ -8,7 +8,10 @@ mod readiness;
 mod round;
 
 pub use job::JobState;
-pub use laws::{items_are_touched_from_below, touched_items_have_the_jobs};
+pub use laws::{
+    all_children_are_looked_at, items_are_touched_from_below,
+    rounds_have_what_is_touched_between_fronts, touched_items_have_the_jobs,
+};
 pub use round::PlanRound;
 
 #[cfg(test)]

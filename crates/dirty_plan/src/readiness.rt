@@ -1,7 +1,8 @@
 //! Which jobs are ready.
 
 ghost use Rattle.std.specs.Prelude.{◌≡◌, ◌<◌, ◌&&◌, length};
-ghost use Rattle.dirty_plan.specs.Round.{has_unfinished_child as has_unfinished_child_of, is_ready as is_ready_of, is_unfinished as is_unfinished_of};
+ghost use Rattle.dirty_plan.specs.Round.{has_unfinished_child as has_unfinished_child_of, is_ready as is_ready_of};
+ghost use Rattle.dirty_plan.specs.Round.{is_unfinished as is_unfinished_of};
 ghost use Rattle.series_tables.specs.Plan.{is_parent};
 
 use crate::job::{JobState, is_unfinished};

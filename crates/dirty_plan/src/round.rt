@@ -1,7 +1,8 @@
 //! The jobs of a round.
 
 ghost use Rattle.std.specs.Prelude.{◌≡◌, ◌≤◌, ◌↔◌, length, IsTrue, IfOk};
-ghost use Rattle.dirty_plan.specs.Round.{IsLeast, has_flag, is_left, is_ready as is_ready_of, job_count, opened_round, state_of, with_state};
+ghost use Rattle.dirty_plan.specs.Round.{IsLeast, has_flag, is_left, is_ready as is_ready_of, job_count, opened_round};
+ghost use Rattle.dirty_plan.specs.Round.{state_of, with_state};
 ghost use Rattle.dirty_plan.specs.Touched.{NamesLeaves};
 
 use crate::job::{JobState, is_job, is_unfinished};
@@ -33,8 +34,8 @@ impl Model for PlanRound {
 }
 
 impl PlanRound {
-    /// The jobs of a round that begins, all waiting: the leaves with a flag and every item above one of them. There is one flag
-    /// for each item, and only leaves have it set.
+    /// The jobs of a round that begins, all waiting: the leaves with a flag and every item above one of them. There
+    /// is one flag for each item, and only leaves have it set.
     pub fn new(alloc: Global, plan: &Plan, touched: &[bool]) -> Result<PlanRound, Memory>
         requires all { length touched.now ≡ length plan.now.names }
         requires leaves { NamesLeaves plan.now (has_flag touched.now) }
@@ -57,10 +58,11 @@ impl PlanRound {
         self.jobs.iter().filter(|state| is_job(**state)).count() as u16
     }
 
-    /// The least item whose job can be taken: it waits, and no child of the item has an unfinished job. None where there is no
-    /// such job.
+    /// The least item whose job can be taken: it waits, and no child of the item has an unfinished job. None where
+    /// there is no such job.
     pub fn ready(&self) -> Option<u16>
-        ensures { IsLeast (is_ready_of self.now.parents self.now.jobs) (length self.now.jobs) result }
+        ensures { let is_ready = is_ready_of self.now.parents self.now.jobs in
+            IsLeast is_ready (length self.now.jobs) result }
     {
         for item in 0..self.jobs.len() {
             if is_ready(&self.parents, &self.jobs, item) {

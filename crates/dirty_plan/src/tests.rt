@@ -13,8 +13,16 @@ use std::test::Fail;
 const TREE: &'static [u8] =
     b"start,2021\nitem,TOTAL,\nitem,GOODS,TOTAL\nitem,FOOD,GOODS\nitem,FUEL,GOODS\nitem,SERV,TOTAL\nitem,RENT,SERV\n";
 
-/// Jobs of FOOD and FUEL as they are done, each with the job that is handed out then.
-const DONE: [(u16, Option<u16>); 4] = [(3, None), (2, Some(1)), (1, Some(0)), (0, None)];
+/// Items, and the job that is handed out once an item's job is finished, where it is out. FOOD and FUEL are named.
+const STEPS: [(u16, Option<u16>); 7] = [
+    (0, Some(2)),
+    (0, Some(3)),
+    (0, None),
+    (3, None),
+    (2, Some(1)),
+    (1, Some(0)),
+    (0, None),
+];
 
 /// A flag for each leaf among the items of these numbers.
 fn flags_of(alloc: Global, plan: &Plan, named: &[u16]) -> Result<Vec<bool>, Fail>
@@ -43,36 +51,27 @@ fn take_next(round: &mut PlanRound) -> Option<u16> {
     Some(item)
 }
 
-/// Finishes a job, where it is out.
-fn finish_out(round: &mut PlanRound, node: u16) -> bool {
-    let is_out = round.is_out(node);
-    if is_out {
+/// Finishes a job, where it is out, and hands out the next.
+fn finish_and_take(round: &mut PlanRound, node: u16) -> Option<u16> {
+    if round.is_out(node) {
         round.finish(node);
     }
-    is_out
+    take_next(round)
 }
 
-/// Puts a job back, where it is out.
-fn put_back_out(round: &mut PlanRound, node: u16) -> bool {
-    let is_out = round.is_out(node);
-    if is_out {
+/// Puts a job back, where it is out, and hands out the next.
+fn put_back_and_take(round: &mut PlanRound, node: u16) -> Option<u16> {
+    if round.is_out(node) {
         round.put_back(node);
     }
-    is_out
+    take_next(round)
 }
 
 #[test]
 fn two_leaves_under_one_total_touch_it_once(rt: HostRuntime) -> Result<(), Fail> {
     let mut round = round_of(rt.alloc(), &[2, 3])?;
-    assert_eq!(rt; (round.jobs(), round.first_left()), (4, Some(0)));
-    for next in [Some(2), Some(3), None] {
-        assert_eq!(&rt; take_next(&mut round), next);
-    }
-    for (node, next) in DONE {
-        assert_eq!(&rt;
-            (finish_out(&mut round, node), take_next(&mut round)),
-            (true, next)
-        );
+    for (node, next) in STEPS {
+        assert_eq!(&rt; finish_and_take(&mut round, node), next);
     }
     assert_eq!(rt; (round.jobs(), round.first_left()), (4, None));
     Ok(())
@@ -81,25 +80,10 @@ fn two_leaves_under_one_total_touch_it_once(rt: HostRuntime) -> Result<(), Fail>
 #[test]
 fn a_job_that_comes_back_is_handed_out_again(rt: HostRuntime) -> Result<(), Fail> {
     let mut round = round_of(rt.alloc(), &[5])?;
-    for (was_out, next) in [(false, Some(5)), (true, Some(5)), (true, Some(5))] {
-        assert_eq!(&rt;
-            (put_back_out(&mut round, 5), take_next(&mut round)),
-            (was_out, next)
-        );
+    for (node, next) in [(5, Some(5)), (5, Some(5)), (4, None)] {
+        assert_eq!(&rt; put_back_and_take(&mut round, node), next);
     }
-    for (node, was_out) in [(4, false), (512, false), (5, true), (5, false)] {
-        assert_eq!(&rt; finish_out(&mut round, node), was_out, "{node}");
-    }
-    assert_eq!(rt; (round.ready(), round.first_left()), (Some(4), Some(0)));
-    Ok(())
-}
-
-#[test]
-fn a_round_in_which_no_leaf_is_named_has_no_job(rt: HostRuntime) -> Result<(), Fail> {
-    let round = round_of(rt.alloc(), &[])?;
-    assert_eq!(rt;
-        (round.jobs(), round.ready(), round.first_left()),
-        (0, None, None)
-    );
+    assert!(rt; round.is_out(5) && !round.is_out(4) && !round.is_out(512));
+    assert_eq!(rt; (round.jobs(), round.first_left()), (3, Some(0)));
     Ok(())
 }
