@@ -1,0 +1,4 @@
+pub mod Children
+pub mod Counts
+pub mod Marks
+pub mod Named
