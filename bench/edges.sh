@@ -31,6 +31,7 @@ expect() {
 }
 
 sum_of() { sha256sum < "$1"; }
+size_of() { wc -c < "$1"; }
 
 printf 'start,2021\nreference,2021\nitem,TOTAL,\nitem,FOOD,TOTAL\nitem,SERV,TOTAL\n' > plan.csv
 {
@@ -43,13 +44,19 @@ printf 'start,2021\nreference,2021\nitem,TOTAL,\nitem,FOOD,TOTAL\nitem,SERV,TOTA
     done
 } > clean.csv
 { cat clean.csv; echo 'nonsense'; echo 'ind,NONE,2021Q1,5'; } > input.csv
+example=$home/examples/prices
 refused=$(printf '19,no,form\n20,no,unknown')
 plan_sum=$(sum_of plan.csv) input_sum=$(sum_of input.csv) clean_sum=$(sum_of clean.csv)
+
+# The release of an example that was computed by hand.
+"$program" batch "$example/plan.csv" "$example/input.csv" prices.csv > report.txt
+expect "the release of an example, byte for byte" 0 $? "$(sum_of "$example/release.csv")" "$(sum_of prices.csv)" 0 "$(size_of report.txt)"
 
 # The files of a command as they are after it.
 "$program" batch plan.csv input.csv release.csv > report.txt
 expect "a release, its report, and the plan and the input as they were" \
-    0 $? "$refused" "$(cat report.txt)" "$plan_sum" "$(sum_of plan.csv)" "$input_sum" "$(sum_of input.csv)" "release,18" "$(head -1 release.csv)" "end,18" "$(tail -1 release.csv)"
+    0 $? "$refused" "$(cat report.txt)" "$plan_sum" "$(sum_of plan.csv)" "$input_sum" "$(sum_of input.csv)" \
+    "release,18" "$(head -1 release.csv)" "end,18" "$(tail -1 release.csv)" 25 "$(size_of report.txt)"
 release_sum=$(sum_of release.csv)
 
 { cat release.csv; cat release.csv; } > old.csv
@@ -63,8 +70,10 @@ cat input.csv >> long.csv
 expect "an input of many pieces" 0 $? "$release_sum" "$(sum_of whole.csv)" "$(printf '30019,no,form\n30020,no,unknown')" "$(cat whole.txt)"
 mkfifo pipe
 dd if=input.csv of=pipe bs=1 2> /dev/null &
-"$program" batch plan.csv pipe piped.csv > piped.txt
+writer=$!
+timeout 20 "$program" batch plan.csv pipe piped.csv > piped.txt
 expect "the same input through a pipe, byte by byte" 0 $? "$release_sum" "$(sum_of piped.csv)" "$refused" "$(cat piped.txt)"
+kill "$writer" 2> /dev/null
 wait
 
 # Closed descriptors.
@@ -111,13 +120,19 @@ expect "a folder as the input" 5 $? "read,." "$(cat report.txt)" "" "$(cat out.c
 cp release.csv out.csv
 printf 'start,1\n' > bad.csv
 "$program" batch bad.csv input.csv out.csv > report.txt
-expect "a plan that is refused" 3 $? "1" "$(wc -l < report.txt)" "$release_sum" "$(sum_of out.csv)"
+expect "a plan that is refused" 3 $? "plan,1,form" "$(cat report.txt)" "$release_sum" "$(sum_of out.csv)"
+
+# Past the limits.
+awk 'BEGIN { print "start,2021"; for (n = 0; n < 400000; n++) print "# a line of a plan that is too long" }' > large.csv
+"$program" batch large.csv input.csv out.csv > report.txt
+expect "a plan past its limit" 8 $? "toomuch,large.csv" "$(cat report.txt)" "$release_sum" "$(sum_of out.csv)"
 
 # The verdict on a certificate.
-certificate=$home/examples/certificate/food.csv
-"$program" check "$certificate" > report.txt
-expect "a certificate's verdict" 0 $? "yes" "$(cat report.txt)"
-"$program" check "$certificate" > /dev/full
+cp "$home/examples/certificate/food.csv" food.csv
+food_sum=$(sum_of food.csv)
+"$program" check food.csv > report.txt
+expect "a certificate's verdict, and the certificate as it was" 0 $? "yes" "$(cat report.txt)" 4 "$(size_of report.txt)" "$food_sum" "$(sum_of food.csv)"
+"$program" check food.csv > /dev/full
 expect "a yes that can't be written" 6 $?
 "$program" check plan.csv > report.txt
 expect "a text that is no certificate" 7 $? "no," "$(head -c 3 report.txt)"

@@ -81,7 +81,7 @@ fn a_total_is_compiled_with_its_two_leaves(rt: HostRuntime) -> Result<(), Fail> 
     let release = compiled::<Brand>(Blank::new(1), alloc, &plan, 100, 200)?;
     assert_eq!(rt; release.front, 18);
     let [total, food, services] = release.nodes.as_slice() else {
-        return Err(Fail);
+        return Err(Fail::new("a release of three items"));
     };
     assert!(rt; has_quarters(total, 300, 3_000_000));
     assert!(rt; has_quarters(food, 100, 1_000_000));
@@ -92,7 +92,7 @@ fn a_total_is_compiled_with_its_two_leaves(rt: HostRuntime) -> Result<(), Fail> 
         [Cell::Value(12_000_000)].as_slice()
     );
     let Some(part) = &food.leaf else {
-        return Err(Fail);
+        return Err(Fail::new("a leaf with its part"));
     };
     assert_eq!(rt;
         (part.cert.scale, part.cert.u.len(), part.cert.gap),
