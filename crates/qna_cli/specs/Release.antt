@@ -14,9 +14,9 @@ unfoldable pub release_of : PlanShape → List Input → List ℕ
 release_of plan inputs = release_text plan (length inputs) (compilation plan inputs)
 
 -- whatever the plan and the text: each leaf's table is about what was sent last, and its values add up to the benchmark
--- in every benchmarked year; they meet the benchmarks of its certificate, and no series that meets these has a sum of squared ratio changes smaller by more than the printed gap, and each item's chained volumes
--- are those of the annual overlap: a level is the exact product of the links up to its drift, and the quarters of a
--- complete year add up to it
+-- in every benchmarked year; they meet the benchmarks of its certificate, and no series that meets these has a sum of
+-- squared ratio changes smaller by more than the printed gap; and each item's chained volumes are those of the annual
+-- overlap: a level is the exact product of the links up to its drift, and the quarters of a complete year add up to it
 unfoldable pub ReleasesAreCertified : Type 0
 ReleasesAreCertified =
     (plan : PlanShape) (text : List ℕ)

@@ -38,7 +38,8 @@ fn tell_yes<K: Sink>(report: &mut K) -> Status
         Rose (K.paper report.old).faults (K.paper report.new).faults
         × BreaksOff (K.paper report.old) (K.paper report.new) (codes "yes\n") }
     ensures memory { result ≡ Status.Memory →
-        BreaksOff (K.paper report.old) (K.paper report.new) (codes "yes\n") }
+        Rose (K.paper report.old).wants (K.paper report.new).wants
+        × BreaksOff (K.paper report.old) (K.paper report.new) (codes "yes\n") }
     ensures ends { (result ≡ Status.Done)
         ⊎ ((result ≡ Status.WriteFault) ⊎ (result ≡ Status.Memory)) }
 {
@@ -86,7 +87,8 @@ fn tell_found<K: Sink>(alloc: Global, text: &[u8], report: &mut K) -> Status
     ensures no { result ≡ Status.CheckNo → (found text.now ≢ Ok Verdict.Yes)
         × Writes (K.paper report.old) (K.paper report.new) (verdict_text text.now) }
     ensures memory { result ≡ Status.Memory → (K.paper report.new ≡ K.paper report.old)
-        ⊎ (BreaksOff (K.paper report.old) (K.paper report.new) (codes "yes\n")
+        ⊎ (Rose (K.paper report.old).wants (K.paper report.new).wants
+        × BreaksOff (K.paper report.old) (K.paper report.new) (codes "yes\n")
         × (found text.now ≡ Ok Verdict.Yes)) }
     ensures ends { (result ≡ Status.Memory) ⊎ (ends_at_verdict result ≡ true) }
 {

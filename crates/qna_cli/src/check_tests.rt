@@ -1,4 +1,4 @@
-// `check` over files in memory: the worked certificate and changed ones, the limits, the devices, and words of other forms.
+// `check` over files in memory: the worked certificate and changed ones, the limits, the devices, and other words.
 
 ghost use Rattle.std.specs.Prelude.{◌<◌};
 

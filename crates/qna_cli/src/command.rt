@@ -117,9 +117,9 @@ pub fn run_batch<C: Cabinet, K: Sink>(
 }
 
 /// Law: whatever the plan and the accepted inputs, in every release each leaf's quarters are numbers that add up to the
-/// benchmarks sent last for its benchmarked years, no series that meets these benchmarks has a sum of squared ratio changes smaller by more than
-/// the printed gap, and each item's chained volumes are the products of its annual links up to the printed drift, with
-/// quarters that add up to the level of a complete year.
+/// benchmarks sent last for its benchmarked years, no series that meets these benchmarks has a sum of squared ratio
+/// changes smaller by more than the printed gap, and each item's chained volumes are the products of its annual links
+/// up to the printed drift, with quarters that add up to the level of a complete year.
 pub fn releases_are_certified()
     ensures { ReleasesAreCertified }
 {}

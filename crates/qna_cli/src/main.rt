@@ -29,9 +29,10 @@ mod tests;
 /// A file for reading that is always there and empty.
 const NOTHING: &str = "/dev/null";
 
-/// Takes the numbers of the three standard descriptors where they are closed. A file that is opened gets the lowest number that is free. So where a program is started
-/// with its standard output closed, its first output file would become its standard output, and the report would be written into it. While these
-/// three are held, a write to a closed standard output fails.
+/// Takes the numbers of the three standard descriptors where they are closed. A file that is opened gets the lowest
+/// number that is free. So where a program is started with its standard output closed, its first output file would
+/// become its standard output, and the report would be written into it. While these three are held, a write to a closed
+/// standard output fails.
 fn hold_standard_descriptors<R: Files>(rt: &R) -> io::Result<[R::File; 3]> {
     Ok([
         fs::open(rt, NOTHING)?,
@@ -49,8 +50,8 @@ fn words_of(alloc: Global, texts: &[String]) -> Result<Vec<&str>, Memory> {
     Ok(words)
 }
 
-/// The texts of the command line, the program's name first. The answer is a status where they can't be had: for want of memory, or at a word that isn't
-/// UTF-8, which is of no command's form and is reported so.
+/// The texts of the command line, the program's name first. The answer is a status where they can't be had: for want of
+/// memory, or at a word that isn't UTF-8, which is of no command's form and is reported so.
 fn texts_of(rt: &HostRuntime, report: &mut StdoutSink) -> Result<Vec<String>, Status> {
     match env::args(rt) {
         Ok(arguments) => arguments.collect(rt.alloc()).map_err(|_| Status::Memory),

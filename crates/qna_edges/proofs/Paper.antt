@@ -1,8 +1,8 @@
 -- Papers that grow by parts of a text.
-use Rattle.std.proofs.Common.{◌≡◌, ◌≤◌, ◌∙◌, ℕ, ◌+◌, ◌-◌, List, [], ◌++◌, length, take, drop, arith, refl, sym, ap, append_assoc, length-append, Some, None, inl, inr, ◌⊎◌}
+use Rattle.std.proofs.Common.{◌≡◌, ◌≤◌, ◌∙◌, ℕ, ◌+◌, ◌-◌, List, [], ◌++◌, length, take, drop, arith, refl, sym, ap, append_assoc, length-append, length-drop, Some, None, inl, inr, ◌⊎◌}
 use Rattle.std.specs.Prelude.{Result, IsErrOf, ◌<◌}
 use Rattle.std.proofs.lemmas.List.{take_all, take-append-le, append-nil}
-use Rattle.std.proofs.Math.Seq.{take-append-add}
+use Rattle.std.proofs.Math.Seq.{take-add, take-append-add}
 use Rattle.qna_edges.specs.Count.{Rose}
 use Rattle.std.specs.Option.{option_map}
 use Rattle.std.specs.declared.option.Option.{Option}
@@ -10,9 +10,6 @@ use Rattle.std.specs.declared.result.Result.TheVariants.{Ok, Err}
 use Rattle.qna_edges.specs.declared.refused.Refused.{Refused}
 use Rattle.qna_edges.specs.declared.refused.Refused.TheVariants.{Failed, Memory}
 use Rattle.qna_edges.specs.Paper.{Paper, grown, Fails, Wants, WasRefused, BreaksOff, Prints, Writes, WasWritten}
-use Rattle.std.specs.Io.KnownBytes.{Appends}
-use Rattle.qna_edges.specs.Told.{AppendsPrefix}
-use Rattle.qna_edges.proofs.Told.{take-rest, AppendsPrefix-whole}
 
 -- a text and then another were added
 pub grown-grown : (paper : Paper) (text more : List ℕ) → grown (grown paper text) more ≡ grown paper (text ++ more)
@@ -23,6 +20,12 @@ grown-grown paper text more = ap (λ (held : Option (List ℕ)). record paper { 
     by_held (Some bytes) = ap (λ (xs : List ℕ). Some xs) (append_assoc bytes text more)
 
 -- the first part of a text, and then the first bytes of what is left of it
+take-rest : (text : List ℕ) (done k : ℕ) → take done text ++ take k (take (length text - done) (drop done text)) ≡ take (done + k) text
+take-rest text done k =
+    let whole : take (length text - done) (drop done text) ≡ drop done text = take_all _ _ (omega (arith, length-drop done text)) in
+    rw (whole, take-add done k text) refl
+
+-- the same of papers
 pub grown-more : (old mid new : Paper) (text : List ℕ) (done k : ℕ) → mid ≡ grown old (take done text) → new ≡ grown mid (take k (take (length text - done) (drop done text))) → new ≡ grown old (take (done + k) text)
 grown-more old mid new text done k first then =
     then ∙ ap (λ (p : Paper). grown p (take k (take (length text - done) (drop done text)))) first ∙ grown-grown old (take done text) (take k (take (length text - done) (drop done text)))
@@ -127,24 +130,6 @@ prints_first Memory old new text more then = record {
 
 pub ruleset printed = (prints_both, prints_first, written_or_refused)
 
--- what is told of a paper that grew, whole or by a part
-pub appends_grown : (old new : Paper) (text : List ℕ) → new ≡ grown old text → Appends old.held new.held text
-appends_grown old new text is = by_held old.held new.held (ap (λ (p : Paper). p.held) is)
-  where
-    by_held : (before now : Option (List ℕ)) → now ≡ option_map (λ bytes. bytes ++ text) before → Appends before now text
-    by_held None now same = tt
-    by_held (Some xs) now same = rw same refl
-
-pub prefix_grown : (old new : Paper) (text : List ℕ) → new ≡ grown old text → AppendsPrefix old.held new.held text
-prefix_grown old new text is = AppendsPrefix-whole old.held new.held text (appends_grown old new text is)
-
-pub prefix_broken : (old new : Paper) (text : List ℕ) → BreaksOff old new text → AppendsPrefix old.held new.held text
-prefix_broken old new text off = (off.part.0, omega (arith, off.part.1), by_held old.held new.held (ap (λ (p : Paper). p.held) off.part.2))
-  where
-    by_held : (before now : Option (List ℕ)) → now ≡ option_map (λ bytes. bytes ++ take off.part.0 text) before → Appends before now (take off.part.0 text)
-    by_held None now same = tt
-    by_held (Some xs) now same = rw same refl
-
 -- a paper that grew counted nothing
 pub faults_grown : (old new : Paper) (text : List ℕ) → new ≡ grown old text → old.faults ≤ new.faults
 faults_grown old new text is = let same : new.faults ≡ old.faults = ap (λ (p : Paper). p.faults) is in omega (arith, same)
@@ -166,18 +151,11 @@ pub written_printed : {T : Type 0} (result : Result T Refused) (old new : Paper)
 written_printed (Ok value) old new text done = written_grown old new text done.ok
 written_printed (Err refused) old new text done = written_broken old new text done.cut
 
-pub ruleset told_of = (appends_grown, prefix_grown, prefix_broken, faults_grown, written_printed)
+pub ruleset told_of = (faults_grown, written_printed)
 
 -- the same of a text that the two make up
 pub prints_two : {T : Type 0} (result : Result T Refused) (old mid new : Paper) (text more whole : List ℕ) → mid ≡ grown old text → Prints mid new more result → whole ≡ text ++ more → Prints old new whole result
 prints_two result old mid new text more whole first then is = rw is (prints_both result old mid new text more first then)
-
--- what is told of a paper on which a text was to be written
-pub prefix_written : (old new : Paper) (text : List ℕ) → Writes old new text → AppendsPrefix old.held new.held text
-prefix_written old new text written = elim written [
-  | inl whole ↦ prefix_grown old new text whole
-  | inr off ↦ prefix_broken old new text off.1
-]
 
 -- a text of nothing
 pub grown_nothing : (paper : Paper) → paper ≡ grown paper []

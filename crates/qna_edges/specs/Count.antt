@@ -1,5 +1,5 @@
 -- Counts of faults: they never fall, and they stand still at the end of 64 bits.
-use Rattle.std.specs.Prelude.{ℕ, ◌+◌, ◌-◌, ◌^◌, ◌≤◌, min, max, Result, OnErr}
+use Rattle.std.specs.Prelude.{ℕ, ◌+◌, ◌-◌, ◌^◌, ◌≤◌, min, max}
 
 -- a count rose: it is greater than before, or stands at its last value, 2^64 - 1
 abbrev pub Rose : ℕ → ℕ → Type 0
@@ -8,8 +8,3 @@ Rose before now = min (before + 1) (2 ^ 64 - 1) ≤ now
 -- a count with so much added, cut to its last value; it is never below what it was
 abbrev pub capped : ℕ → ℕ → ℕ
 capped count more = max count (min (count + more) (2 ^ 64 - 1))
-
--- the count doesn't fall, and an error comes only where it rose
-pub record HasCause {T E : Type 0} (before now : ℕ) (result : Result T E) : Type 0 where
-  pub later : before ≤ now
-  pub failed : OnErr result (Rose before now)

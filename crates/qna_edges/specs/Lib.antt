@@ -8,5 +8,4 @@ pub mod Shelves
 pub mod Status
 pub mod Stock
 pub mod Tally
-pub mod Told
 pub mod Untold

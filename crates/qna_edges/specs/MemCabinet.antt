@@ -74,8 +74,8 @@ open_fails cabinet name = next_fails cabinet || is_none (file_of cabinet name)
 abbrev pub opened : Supply → List ℕ → Supply
 opened file name = record file { faults = 0; name = name }
 
--- the sink that `create` gives: as the plan says, or one that takes all and never fails; it has this name, holds nothing
--- and has counted nothing
+-- the sink that `create` gives: as the plan says, or one that takes all and never fails; it has this name, holds
+-- nothing and has counted nothing
 abbrev pub created : Option Store → List ℕ → Store
 created None name =
     record { held = []; piece = 2 ^ 64 - 1; fails = []; writes = 0; faults = 0; wants = 0; name = name }
@@ -92,7 +92,8 @@ shelf_under cabinet name = record {
   creates = (counted_of cabinet name).creates;
   reads = (counted_of cabinet name).reads;
   writes = (counted_of cabinet name).writes;
-  given = (counted_of cabinet name).given;
+  sources = (counted_of cabinet name).sources;
+  sinks = (counted_of cabinet name).sinks;
   file = bytes_of cabinet name;
   rest = rest_of cabinet name;
 }

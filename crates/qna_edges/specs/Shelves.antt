@@ -12,8 +12,9 @@ pub record Shelf : Type 0 where
   pub creates : ℕ
   pub reads : ℕ
   pub writes : ℕ
-  -- how many sinks were given for it
-  pub given : ℕ
+  -- how many sources were given for it, and how many sinks
+  pub sources : ℕ
+  pub sinks : ℕ
   -- what stands there, where the cabinet tells it
   pub file : Option (List ℕ)
   -- how many bytes the last source that came back had left
@@ -43,14 +44,14 @@ pub record Same (old new : Shelves) : Type 0 where
   pub same : Untouched old new
   pub out : new.out ≡ old.out
 
--- a source was given: no name was touched, and one more is out
-pub record GivesSource (old new : Shelves) : Type 0 where
-  pub same : Untouched old new
+-- a source was given for a name: it has one more, nothing else changed, and one more is out
+pub record GivesSource (old new : Shelves) (name : List ℕ) : Type 0 where
+  pub only : OnlyAt old new name (record (old.under name) { sources = (old.under name).sources + 1 })
   pub out : new.out ≡ old.out + 1
 
 -- a sink was given for a name: it has one more, nothing else changed, and one more is out
 pub record GivesSink (old new : Shelves) (name : List ℕ) : Type 0 where
-  pub only : OnlyAt old new name (record (old.under name) { given = (old.under name).given + 1 })
+  pub only : OnlyAt old new name (record (old.under name) { sinks = (old.under name).sinks + 1 })
   pub out : new.out ≡ old.out + 1
 
 -- the opening of a name failed: its count rose, and nothing else changed
@@ -85,15 +86,20 @@ pub record BackOut (old new : Shelves) (sink : Paper) : Type 0 where
   pub kept : IsTrue old.tells → (new.under sink.name).file ≡ sink.held
   pub out : new.out ≡ old.out - 1
 
--- one name alone was opened and read: nothing else changed, no count of it fell, and as many are out
+-- what a cabinet has under one name was opened and read, and one source at most was given for it: no count fell, and
+-- nothing else changed
+pub record IsReadOnce (old new : Shelf) : Type 0 where
+  pub only : new ≡ record old { opens = new.opens; reads = new.reads; sources = new.sources; rest = new.rest }
+  pub opens : old.opens ≤ new.opens
+  pub reads : old.reads ≤ new.reads
+  pub sources : old.sources ≤ new.sources
+  pub once : new.sources ≤ old.sources + 1
+
+-- one name alone was opened and read, and as many are out
 pub record OnlyRead (old new : Shelves) (name : List ℕ) : Type 0 where
-  pub only : OnlyAt old new name (record (old.under name) {
-    opens = (new.under name).opens;
-    reads = (new.under name).reads;
-    rest = (new.under name).rest;
-  })
-  pub opens : (old.under name).opens ≤ (new.under name).opens
-  pub reads : (old.under name).reads ≤ (new.under name).reads
+  pub here : IsReadOnce (old.under name) (new.under name)
+  pub others : (n : List ℕ) → n ≢ name → new.under n ≡ old.under n
+  pub tells : new.tells ≡ old.tells
   pub out : new.out ≡ old.out
 
 -- P holds of what stands under a name, where the cabinet tells it

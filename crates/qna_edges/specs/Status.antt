@@ -1,7 +1,8 @@
 -- The exit status of the program.
 use Rattle.std.specs.Prelude.{ℕ}
 use Rattle.qna_edges.specs.declared.status.Status.{Status}
-use Rattle.qna_edges.specs.declared.status.Status.TheVariants.{Done, Memory, Usage, PlanFault, OpenFault, ReadFault, WriteFault, CheckNo, TooMuch}
+use Rattle.qna_edges.specs.declared.status.Status.TheVariants.{Done, Memory, Usage, PlanFault, OpenFault}
+use Rattle.qna_edges.specs.declared.status.Status.TheVariants.{ReadFault, WriteFault, CheckNo, TooMuch}
 
 -- the number of each way in which a command ends
 abbrev pub number_of : Status → ℕ

@@ -10,11 +10,12 @@ untold counts = record {
   creates = counts.creates;
   reads = counts.reads;
   writes = counts.writes;
-  given = counts.given;
+  sources = counts.sources;
+  sinks = counts.sinks;
   file = None;
   rest = 0;
 }
 
--- nothing stands there, nothing failed, and no sink was given
+-- nothing stands there, nothing failed, and no source or sink was given
 abbrev pub no_shelf : Shelf
-no_shelf = record { opens = 0; creates = 0; reads = 0; writes = 0; given = 0; file = None; rest = 0 }
+no_shelf = record { opens = 0; creates = 0; reads = 0; writes = 0; sources = 0; sinks = 0; file = None; rest = 0 }

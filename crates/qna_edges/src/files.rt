@@ -172,9 +172,13 @@ where
             return Err(Refused::Memory);
         }
         self.tally.reserve(name)?;
+        if self.tally.sources(name) == u64::MAX {
+            return Err(Refused::Memory);
+        }
         let own = String::from_str(self.alloc, name)?;
         match fs::open(&self.rt, name) {
             Ok(file) => {
+                self.tally.give_source(name);
                 self.out += 1;
                 Ok(FileSource {
                     file,
@@ -194,13 +198,13 @@ where
             return Err(Refused::Memory);
         }
         self.tally.reserve(name)?;
-        if self.tally.given(name) == u64::MAX {
+        if self.tally.sinks(name) == u64::MAX {
             return Err(Refused::Memory);
         }
         let own = String::from_str(self.alloc, name)?;
         match fs::create(&self.rt, name) {
             Ok(file) => {
-                self.tally.give(name);
+                self.tally.give_sink(name);
                 self.out += 1;
                 Ok(FileSink {
                     file,

@@ -1,5 +1,6 @@
 // Files in memory, by their names.
-ghost use Rattle.std.specs.Prelude.{◌≡◌, ◌≤◌, ◌+◌, ◌-◌, ◌^◌, ℕ, List, [], IsTrue, length, true, false, IfOk, IfSome, OnOk, OnErr, IsErrOf, Some, None};
+ghost use Rattle.std.specs.Prelude.{◌≡◌, ◌≤◌, ◌+◌, ◌-◌, ◌^◌, ℕ, List, [], IsTrue, length, true, false, IfOk};
+ghost use Rattle.std.specs.Prelude.{IfSome, OnOk, OnErr, IsErrOf, Some, None};
 ghost use Rattle.std.specs.Option.{option_map, option_copied};
 ghost use Rattle.qna_edges.specs.Count.{Rose, capped};
 ghost use Rattle.qna_edges.specs.Names.{SameAtAll, SameAtOthers, StaysKnown};
@@ -33,7 +34,9 @@ pub struct MemCabinet {
 
 impl MemCabinet {
     ghost use Rattle.qna_edges.specs.Tally.{nothing_counted};
-    ghost use Rattle.qna_edges.specs.MemCabinet.{drawer_of, has_drawer, file_of, bytes_of, plan_of, rest_of, counted_of, calls_of, out_of, fails_of, Knows, opened, created};
+    ghost use Rattle.qna_edges.specs.MemCabinet.{drawer_of, has_drawer, file_of, bytes_of, plan_of, rest_of};
+    ghost use Rattle.qna_edges.specs.MemCabinet.{counted_of, calls_of, out_of, fails_of, Knows, opened};
+    ghost use Rattle.qna_edges.specs.MemCabinet.{created};
 
     /// A cabinet without files, none of whose calls is to fail.
     pub fn new(alloc: Global) -> MemCabinet
@@ -214,7 +217,9 @@ impl Cabinet for MemCabinet {
     type Out = MemSink;
 
     ghost use Rattle.qna_edges.specs.Shelves.{Same, GivesSource, GivesSink, OpenFails, CreateFails, BackIn, BackOut};
-    ghost use Rattle.qna_edges.specs.MemCabinet.{shelves_of, file_of, bytes_of, plan_of, open_faults_of, create_faults_of, calls_of, fails_of, Knows, next_fails, open_fails, opened, created, kept};
+    ghost use Rattle.qna_edges.specs.MemCabinet.{shelves_of, file_of, bytes_of, plan_of, open_faults_of};
+    ghost use Rattle.qna_edges.specs.MemCabinet.{create_faults_of, calls_of, fails_of, Knows, next_fails};
+    ghost use Rattle.qna_edges.specs.MemCabinet.{open_fails, opened, created, kept};
     ghost use Rattle.qna_edges.specs.Memory.{stock_of, paper_of};
 
     ghost shelves = { shelves_of };
@@ -229,7 +234,7 @@ impl Cabinet for MemCabinet {
         ensures left { IfOk result (λ s. Some s.left ≡ bytes_of self.old name.now) }
         ensures known { OnOk result (Knows self.new name.now) }
         ensures stays_known { StaysKnown (Knows self.old) (Knows self.new) }
-        ensures ok { OnOk result (GivesSource (shelves_of self.old) (shelves_of self.new)) }
+        ensures ok { OnOk result (GivesSource (shelves_of self.old) (shelves_of self.new) name.now) }
         ensures failed { IsErrOf result Refused.Failed →
             OpenFails (shelves_of self.old) (shelves_of self.new) name.now }
         ensures memory { IsErrOf result Refused.Memory →
@@ -254,10 +259,14 @@ impl Cabinet for MemCabinet {
             return Err(Refused::Memory);
         }
         self.reserve(name)?;
+        if self.tally.sources(name) == u64::MAX {
+            return Err(Refused::Memory);
+        }
         let source = self.source_of(name)?;
         let listed = self.count_call();
         match source {
             Some(source) if !listed => {
+                self.tally.give_source(name);
                 self.out += 1;
                 Ok(source)
             }
@@ -299,7 +308,7 @@ impl Cabinet for MemCabinet {
             return Err(Refused::Memory);
         }
         self.reserve(name)?;
-        if self.tally.given(name) == u64::MAX {
+        if self.tally.sinks(name) == u64::MAX {
             return Err(Refused::Memory);
         }
         let sink = self.sink_of(name)?;
@@ -307,7 +316,7 @@ impl Cabinet for MemCabinet {
             self.tally.raise(Kind::Create, 1, name);
             return Err(Refused::Failed);
         }
-        self.tally.give(name);
+        self.tally.give_sink(name);
         self.out += 1;
         Ok(sink)
     }

@@ -1,13 +1,14 @@
 // What the program sees of the outside: where bytes come from, where they go, and the files by their names.
-ghost use Rattle.std.specs.Prelude.{◌≡◌, ◌<◌, ◌≤◌, ℕ, List, [], IsTrue, length, take, IfOk, IfSome, OnOk, IsErrOf};
+ghost use Rattle.std.specs.Prelude.{◌≡◌, ◌<◌, ◌≤◌, ℕ, List, [], IsTrue, length, take, IfOk, IfSome, IsSome};
+ghost use Rattle.std.specs.Prelude.{OnOk, OnErr, IsErrOf};
 ghost use Rattle.std.specs.declared.option.Option.{Option};
 ghost use Rattle.std.specs.Io.{ReadsAtMost};
 ghost use Rattle.std.specs.Io.KnownBytes.{ReadConsumes};
-ghost use Rattle.qna_edges.specs.Count.{HasCause};
 ghost use Rattle.qna_edges.specs.Names.{StaysKnown};
-ghost use Rattle.qna_edges.specs.Stock.{Stock};
+ghost use Rattle.qna_edges.specs.Stock.{Stock, GivesBytes, ReadFails};
 ghost use Rattle.qna_edges.specs.Paper.{Paper, grown, Fails, Wants};
-ghost use Rattle.qna_edges.specs.Shelves.{Shelves, Same, GivesSource, GivesSink, OpenFails, CreateFails, BackIn, BackOut};
+ghost use Rattle.qna_edges.specs.Shelves.{Shelves, Same, GivesSource, GivesSink, OpenFails, CreateFails};
+ghost use Rattle.qna_edges.specs.Shelves.{BackIn, BackOut};
 
 use crate::{Failed, Refused};
 
@@ -17,13 +18,13 @@ pub trait Source: Send + Drop {
     ghost stock: { Self → Stock };
 
     /// Takes the next bytes into the front of `buf`, and answers how many. `Ok(0)` is the end of input.
-    /// At `Failed` the count rose and nothing was taken.
+    /// At `Failed` the count of faults rose, and nothing else changed.
     fn read(&mut self, buf: &mut [u8]) -> Result<usize, Failed>
         requires { 0 < length buf.old }
         ensures bound { ReadsAtMost result buf.new }
         ensures bytes { ReadConsumes (stock self.old).left (stock self.new).left result buf.new }
-        ensures cause { HasCause (stock self.old).faults (stock self.new).faults result }
-        ensures same_name { (stock self.new).name ≡ (stock self.old).name };
+        ensures ok { OnOk result (GivesBytes (stock self.old) (stock self.new)) }
+        ensures failed { OnErr result (ReadFails (stock self.old) (stock self.new)) };
 }
 
 /// Where bytes go.
@@ -57,15 +58,18 @@ pub trait Cabinet {
     /// The names that the cabinet has room for, so that a source or sink of theirs can come back.
     ghost knows: { Self → List ℕ → Type 0 };
 
-    /// A source of what stands under the name. At `Failed` the name's open faults rose, at `Memory` nothing changed.
+    /// A source of what stands under the name, counted as given for it; a cabinet that tells its bytes gives none where
+    /// nothing stands. At `Failed` the name's open faults rose, at `Memory` nothing changed. A name's count that is
+    /// full is `Memory`.
     fn open(&mut self, name: &str) -> Result<Self::In, Refused>
         ensures source { IfOk result (λ s.
             ((Self.In.stock s).name ≡ name.now) × ((Self.In.stock s).faults ≡ 0)) }
         ensures left { IfOk result (λ s. IsTrue (shelves self.old).tells →
-            (Self.In.stock s).left ≡ ((shelves self.old).under name.now).file) }
+            ((Self.In.stock s).left ≡ ((shelves self.old).under name.now).file)
+            × IsSome (Self.In.stock s).left) }
         ensures known { OnOk result (knows self.new name.now) }
         ensures stays_known { StaysKnown (knows self.old) (knows self.new) }
-        ensures ok { OnOk result (GivesSource (shelves self.old) (shelves self.new)) }
+        ensures ok { OnOk result (GivesSource (shelves self.old) (shelves self.new) name.now) }
         ensures failed { IsErrOf result Refused.Failed →
             OpenFails (shelves self.old) (shelves self.new) name.now }
         ensures memory { IsErrOf result Refused.Memory →

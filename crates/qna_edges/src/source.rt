@@ -1,10 +1,10 @@
 // Sources in memory.
-ghost use Rattle.std.specs.Prelude.{◌≡◌, ◌<◌, ◌≤◌, ◌+◌, ◌-◌, ◌^◌, ◌++◌, ℕ, List, [], min, length, take, drop, IfOk, IsOk, OnOk, OnErr, is_err, Some, unwrap_or};
+ghost use Rattle.std.specs.Prelude.{◌≡◌, ◌<◌, ◌≤◌, ◌+◌, ◌-◌, ◌^◌, ◌++◌, ℕ, List, [], min, length, take, drop};
+ghost use Rattle.std.specs.Prelude.{IfOk, IsOk, OnOk, OnErr, is_err, Some, unwrap_or};
 ghost use Rattle.std.specs.Option.{option_map};
 ghost use Rattle.std.specs.String.{string_bytes};
 ghost use Rattle.std.specs.Io.{ReadsAtMost};
 ghost use Rattle.std.specs.Io.KnownBytes.{ReadConsumes};
-ghost use Rattle.qna_edges.specs.Count.{HasCause};
 ghost use Rattle.qna_edges.specs.Memory.{Supply, stock_of, fails_at, next_number};
 
 use crate::{Failed, Source};
@@ -124,7 +124,6 @@ impl Source for MemSource {
         requires { 0 < length buf.old }
         ensures bound { ReadsAtMost result buf.new }
         ensures bytes { ReadConsumes (Some self.old.left) (Some self.new.left) result buf.new }
-        ensures cause { HasCause self.old.faults self.new.faults result }
         ensures same_name { self.new.name ≡ self.old.name }
 
         ensures number { self.new.reads ≡ next_number self.old.reads }
@@ -179,7 +178,6 @@ impl Source for QuietSource {
         requires { 0 < length buf.old }
         ensures bound { ReadsAtMost result buf.new }
         ensures bytes { ReadConsumes (Some self.old) (Some self.new) result buf.new }
-        ensures cause { HasCause 0 0 result }
         ensures well { IsOk result }
         ensures count { IfOk result (λ n. n ≡ min (length buf.old) (length self.old)) }
     {

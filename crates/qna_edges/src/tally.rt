@@ -14,18 +14,19 @@ pub(crate) enum Kind {
     Write,
 }
 
-/// How often each kind of call failed under one name, and how many sinks were given for it.
+/// How often each kind of call failed under one name, and how many sources and sinks were given for it.
 #[derive(Clone, Copy)]
 pub(crate) struct Counts {
     pub opens: u64,
     pub creates: u64,
     pub reads: u64,
     pub writes: u64,
-    pub given: u64,
+    pub sources: u64,
+    pub sinks: u64,
 }
 
 impl Counts {
-    ghost use Rattle.qna_edges.specs.Tally.{raised, one_given};
+    ghost use Rattle.qna_edges.specs.Tally.{raised, one_source, one_sink};
 
     fn raise(&mut self, kind: Kind, more: u64)
         ensures { self.new ≡ raised kind self.old more }
@@ -38,11 +39,18 @@ impl Counts {
         }
     }
 
-    fn give(&mut self)
-        requires { self.old.given < 2 ^ 64 - 1 }
-        ensures { self.new ≡ one_given self.old }
+    fn give_source(&mut self)
+        requires { self.old.sources < 2 ^ 64 - 1 }
+        ensures { self.new ≡ one_source self.old }
     {
-        self.given += 1;
+        self.sources += 1;
+    }
+
+    fn give_sink(&mut self)
+        requires { self.old.sinks < 2 ^ 64 - 1 }
+        ensures { self.new ≡ one_sink self.old }
+    {
+        self.sinks += 1;
     }
 }
 
@@ -55,7 +63,7 @@ pub(crate) struct Tally {
 
 impl Tally {
     ghost use Rattle.qna_edges.specs.Names.{SameAtAll, SameAtOthers, StaysKnown};
-    ghost use Rattle.qna_edges.specs.Tally.{counts_of, has_room, nothing_counted, raised, one_given};
+    ghost use Rattle.qna_edges.specs.Tally.{counts_of, has_room, nothing_counted, raised, one_source, one_sink};
 
     pub(crate) fn new(alloc: Global) -> Tally
         ensures { (n : List ℕ) → counts_of result n ≡ nothing_counted }
@@ -81,7 +89,8 @@ impl Tally {
                 creates: 0,
                 reads: 0,
                 writes: 0,
-                given: 0,
+                sources: 0,
+                sinks: 0,
             };
             self.counts.insert(key, none)?;
         }
@@ -102,28 +111,53 @@ impl Tally {
         }
     }
 
-    // How many sinks were given for a name.
-    pub(crate) fn given(&self, name: &str) -> u64
-        ensures { result ≡ (counts_of self.now name.now).given }
+    // How many sources were given for a name.
+    pub(crate) fn sources(&self, name: &str) -> u64
+        ensures { result ≡ (counts_of self.now name.now).sources }
     {
         match self.counts.get(name) {
-            Some(counts) => counts.given,
+            Some(counts) => counts.sources,
             None => 0,
         }
     }
 
-    // Counts a sink that is given for a name.
+    // How many sinks were given for a name.
+    pub(crate) fn sinks(&self, name: &str) -> u64
+        ensures { result ≡ (counts_of self.now name.now).sinks }
+    {
+        match self.counts.get(name) {
+            Some(counts) => counts.sinks,
+            None => 0,
+        }
+    }
+
+    // Counts a source that is given for a name.
     #[tactic(auto, using(std::proofs::lemmas::Map::Text::text_keys))]
-    pub(crate) fn give(&mut self, name: &str)
+    pub(crate) fn give_source(&mut self, name: &str)
         requires room { IsTrue (has_room self.old name.now) }
-        requires more { (counts_of self.old name.now).given < 2 ^ 64 - 1 }
-        ensures at { counts_of self.new name.now ≡ one_given (counts_of self.old name.now) }
+        requires more { (counts_of self.old name.now).sources < 2 ^ 64 - 1 }
+        ensures at { counts_of self.new name.now ≡ one_source (counts_of self.old name.now) }
         ensures others { SameAtOthers (counts_of self.old) (counts_of self.new) name.now }
         ensures stays { StaysKnown (λ n. IsTrue (has_room self.old n))
             (λ n. IsTrue (has_room self.new n)) }
     {
         if let Some(counts) = self.counts.get_mut(name) {
-            counts.give();
+            counts.give_source();
+        }
+    }
+
+    // Counts a sink that is given for a name.
+    #[tactic(auto, using(std::proofs::lemmas::Map::Text::text_keys))]
+    pub(crate) fn give_sink(&mut self, name: &str)
+        requires room { IsTrue (has_room self.old name.now) }
+        requires more { (counts_of self.old name.now).sinks < 2 ^ 64 - 1 }
+        ensures at { counts_of self.new name.now ≡ one_sink (counts_of self.old name.now) }
+        ensures others { SameAtOthers (counts_of self.old) (counts_of self.new) name.now }
+        ensures stays { StaysKnown (λ n. IsTrue (has_room self.old n))
+            (λ n. IsTrue (has_room self.new n)) }
+    {
+        if let Some(counts) = self.counts.get_mut(name) {
+            counts.give_sink();
         }
     }
 }

@@ -3,14 +3,14 @@ use Rattle.std.proofs.Common.{◌≡◌, ◌≤◌, ◌<◌, ◌+◌, ℕ, Bool,
 use Rattle.std.specs.Prelude.{◌≢◌, ◌⊎◌, IfSome, Ok}
 use Rattle.qna_edges.specs.Count.{Rose}
 use Rattle.qna_edges.specs.Paper.{Paper, Writes}
-use Rattle.qna_edges.specs.Shelves.{Shelf, Shelves, OnlyAt, OnlyRead}
+use Rattle.qna_edges.specs.Shelves.{Shelf, Shelves, IsReadOnce, OnlyRead}
 use Rattle.qna_edges.specs.declared.status.Status.{Status}
 use Rattle.qna_edges.specs.declared.status.Status.TheVariants as status
 use Rattle.series_tables.specs.Plan.{PlanShape, plan_of}
 use Rattle.qna_parts.specs.Making.{Making}
 use Rattle.qna_parts.specs.Report.{ReportsFirst}
 use Rattle.qna_parts.specs.StatusLine.{named_line, status_of_unread, unread_line}
-use Rattle.qna_parts.specs.Trace.{Trace, trace_of, OnText, IsReadWhole, IsOnlyRead, IsNotCreated, IsCreatedOnce, EndsUnread}
+use Rattle.qna_parts.specs.Trace.{Trace, trace_of, OnText, IsReadWhole, IsNotCreated, IsCreatedOnce, EndsUnread}
 use Rattle.qna_parts.specs.CommandEnd.{InputUnopened, OutputUncreated, WantsMemory, EndsWithPlan}
 use Rattle.qna_parts.specs.Command.{plan_limit, ends_at_plan, OnlyBetween, OnlyCommand, StopsAtPlan}
 use Rattle.qna_parts.specs.declared.read.Unread.{Unread}
@@ -125,14 +125,9 @@ stops_unread why old new before after plan cause silent only = record {
     ending unread.TooMuch = refl
 
 -- what a plan's text spells is spelled by its file
-pub spelled_by : (file : Option (List ℕ)) (items : List ℕ) (plan : PlanShape) (P : List ℕ → Type 0) → IfSome file (λ text. (items ≡ text) × P text) → plan_of items ≡ Ok plan → IfSome file (λ text. plan_of text ≡ Ok plan)
-spelled_by None items plan P fact read = tt
-spelled_by (Some text) items plan P fact read = rw fact.0 at read
-
--- and it was read to its end
-pub read_by : (file : Option (List ℕ)) (items : List ℕ) (limit rest now : ℕ) → IfSome file (λ text. (items ≡ text) × (rest ≡ 0)) → length items ≤ limit → now ≡ rest → IfSome file (λ text. (length text ≤ limit) × (now ≡ 0))
-read_by None items limit rest now fact few same = tt
-read_by (Some text) items limit rest now fact few same = (rw fact.0 at few, same ∙ fact.1)
+pub spelled_by : (file : Option (List ℕ)) (items : List ℕ) (plan : PlanShape) → IfSome file (λ text. items ≡ text) → plan_of items ≡ Ok plan → IfSome file (λ text. plan_of text ≡ Ok plan)
+spelled_by None items plan fact read = tt
+spelled_by (Some text) items plan fact read = rw fact at read
 
 -- a trace by its parts
 abbrev parted : List ℕ → Bool → Shelf → Shelf → Trace
@@ -143,28 +138,28 @@ same_trace : (old mid new : Shelves) (name : List ℕ) → mid.tells ≡ old.tel
 same_trace old mid new name tells same =
     ap (λ (b : Bool). parted name b (mid.under name) (new.under name)) tells ∙ ap (λ (s : Shelf). parted name old.tells s (new.under name)) same
 
+-- the trace of a name that wasn't touched since
+pub later_trace : (old mid new : Shelves) (name : List ℕ) → new.under name ≡ mid.under name → trace_of old mid name ≡ trace_of old new name
+later_trace old mid new name same = ap (λ (s : Shelf). parted name old.tells (old.under name) s) (sym same)
+
 -- how a command ends with its plan, from before the plan was read
 pub ends_from : (made : Making) (shape : PlanShape) (old mid new : Shelves) (before after : Paper) (plan input output : List ℕ) (end : Status) → OnlyRead old mid plan → plan ≢ input → plan ≢ output →
     EndsWithPlan made shape (trace_of mid new input) (trace_of mid new output) before after end → EndsWithPlan made shape (trace_of old new input) (trace_of old new output) before after end
 ends_from made shape old mid new before after plan input output end only not_input not_output ends =
-    subst (λ (t : Trace). EndsWithPlan made shape t (trace_of old new output) before after end) (same_trace old mid new input only.only.tells (only.only.others input (λ same. not_input (sym same))))
-    (subst (λ (t : Trace). EndsWithPlan made shape (trace_of mid new input) t before after end) (same_trace old mid new output only.only.tells (only.only.others output (λ same. not_output (sym same)))) ends)
-
--- what stood there, with the counts of reading and what is left as in another
-abbrev read_as : Shelf → Shelf → Shelf
-read_as was s = record was { opens = s.opens; reads = s.reads; rest = s.rest }
+    subst (λ (t : Trace). EndsWithPlan made shape t (trace_of old new output) before after end) (same_trace old mid new input only.tells (only.others input (λ same. not_input (sym same))))
+    (subst (λ (t : Trace). EndsWithPlan made shape (trace_of mid new input) t before after end) (same_trace old mid new output only.tells (only.others output (λ same. not_output (sym same)))) ends)
 
 -- what was done to the plan, and then to the input and the output
 pub only_command : (old mid new : Shelves) (plan input output : List ℕ) → OnlyRead old mid plan → OnlyBetween mid new input output → plan ≢ input → plan ≢ output → OnlyCommand old new plan input output
 only_command old mid new plan input output first then not_input not_output =
     let kept : new.under plan ≡ mid.under plan = then.others plan not_input not_output in
-    let of_input : mid.under input ≡ old.under input = first.only.others input (λ same. not_input (sym same)) in
-    let of_output : mid.under output ≡ old.under output = first.only.others output (λ same. not_output (sym same)) in
+    let of_input : mid.under input ≡ old.under input = first.others input (λ same. not_input (sym same)) in
+    let of_output : mid.under output ≡ old.under output = first.others output (λ same. not_output (sym same)) in
     record {
-      others = λ n not_plan other_input other_output. then.others n other_input other_output ∙ first.only.others n not_plan;
-      planned = kept ∙ first.only.here ∙ ap (λ (s : Shelf). read_as (old.under plan) s) (sym kept);
-      read = subst (λ (t : Trace). IsOnlyRead t) (same_trace old mid new input first.only.tells of_input) then.read;
-      written = subst (λ (t : Trace). IsNotCreated t ⊎ IsCreatedOnce t) (same_trace old mid new output first.only.tells of_output) then.written;
-      tells = then.tells ∙ first.only.tells;
+      others = λ n not_plan other_input other_output. then.others n other_input other_output ∙ first.others n not_plan;
+      planned = subst (λ (s : Shelf). IsReadOnce (old.under plan) s) (sym kept) first.here;
+      read = subst (λ (s : Shelf). IsReadOnce s (new.under input)) of_input then.read;
+      written = subst (λ (t : Trace). IsNotCreated t ⊎ IsCreatedOnce t) (same_trace old mid new output first.tells of_output) then.written;
+      tells = then.tells ∙ first.tells;
       out = then.out ∙ first.out;
     }

@@ -1,9 +1,7 @@
 -- What a transfer leaves, by what was taken of its input and made of it.
 use Rattle.std.proofs.Common.{◌≡◌, ◌≤◌, ◌<◌, ◌+◌, ℕ, true, false, List, [], length, take, Option, Some, None, refl, sym, ap, subst, ◌∙◌, codes, inl, inr, arith}
 use Rattle.std.specs.Prelude.{◌⊎◌, IfSome, Result, Ok, Err, is_ok}
-use Rattle.std.specs.Io.KnownBytes.{Appends}
-use Rattle.qna_edges.specs.Paper.{Paper, grown, Writes}
-use Rattle.qna_edges.specs.Told.{AppendsPrefix}
+use Rattle.qna_edges.specs.Paper.{Paper, grown, BreaksOff, Writes}
 use Rattle.qna_edges.specs.declared.status.Status.{Status}
 use Rattle.qna_edges.specs.declared.status.Status.TheVariants.{ReadFault, TooMuch}
 use Rattle.line_form.specs.Lines.{lines_of}
@@ -56,19 +54,17 @@ pub made_of_input : (made : Making) (plan : PlanShape) (all : Option (List ℕ))
 unfolding accepted
 made_of_input made plan all rows count text taken make = if_some all (λ input had. make (accepted_of plan (lines_of input)) (sym had.counted) had.cells) taken
 
--- bytes that grew by a text grew by an equal one, and by a part of it where they grew by a part
-pub grown_by : (all old new : Option (List ℕ)) (text : List ℕ) (same : List ℕ → List ℕ) → IfSome all (λ input. text ≡ same input) → Appends old new text → IfSome all (λ input. Appends old new (same input))
+-- a paper that grew by a text grew by an equal one, and was broken off within it where it was broken off
+pub grown_by : (all : Option (List ℕ)) (old new : Paper) (text : List ℕ) (same : List ℕ → List ℕ) → IfSome all (λ input. text ≡ same input) → new ≡ grown old text → IfSome all (λ input. new ≡ grown old (same input))
 grown_by all old new text same is grew = if_some all (λ input equal. rw equal at grew) is
 
-pub part_by : (all old new : Option (List ℕ)) (text : List ℕ) (same : List ℕ → List ℕ) → IfSome all (λ input. text ≡ same input) → AppendsPrefix old new text → IfSome all (λ input. AppendsPrefix old new (same input))
-part_by all old new text same is part = if_some all (λ input equal. rw equal at part) is
+pub broken_by : (all : Option (List ℕ)) (old new : Paper) (text : List ℕ) (same : List ℕ → List ℕ) → IfSome all (λ input. text ≡ same input) → BreaksOff old new text → IfSome all (λ input. BreaksOff old new (same input))
+broken_by all old new text same is broken = if_some all (λ input equal. rw equal at broken) is
 
 -- an output that can't be written, reported behind all refused lines
-pub output_told : (all left : Option (List ℕ)) (before mid now : Paper) (limit : ℕ) (name : List ℕ) (text_of : List ℕ → List ℕ) → IfSome all (λ text. mid ≡ grown before (text_of text)) →
-    IfSome all (λ text. (length text ≤ limit) × (left ≡ Some [])) → Writes mid now (named_line (codes "write") name) →
-    IfSome all (λ text. (length text ≤ limit) × (left ≡ Some []) × ReportsThen before now (text_of text) (named_line (codes "write") name))
-output_told None left before mid now limit name text_of told ended then = tt
-output_told (Some text) left before mid now limit name text_of told ended then = (ended.0, ended.1, then_line before mid now (text_of text) (named_line (codes "write") name) told then)
+pub output_told : (all : Option (List ℕ)) (before mid now : Paper) (name : List ℕ) (text_of : List ℕ → List ℕ) → IfSome all (λ text. mid ≡ grown before (text_of text)) →
+    Writes mid now (named_line (codes "write") name) → IfSome all (λ text. ReportsThen before now (text_of text) (named_line (codes "write") name))
+output_told all before mid now name text_of told then = if_some all (λ text grew. then_line before mid now (text_of text) (named_line (codes "write") name) grew then) told
 
 -- a report that has each refused line has the first of them, also where nothing was written since
 pub first_of_all : (plan : PlanShape) (all : Option (List ℕ)) (before mid now : Paper) → IfSome all (λ text. mid ≡ grown before (refusals_text plan text)) → now ≡ mid → IfSome all (λ text. ReportsFirst plan before now text)

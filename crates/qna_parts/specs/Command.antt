@@ -1,15 +1,16 @@
 -- A command that makes a text of a plan's file and an input's, and writes it to an output.
-use Rattle.std.specs.Prelude.{◌≡◌, ◌≢◌, ◌≤◌, ◌⊎◌, ℕ, Bool, true, false, List, length, Some, IsTrue, Result, Ok, Err, is_ok}
+use Rattle.std.specs.Prelude.{◌≡◌, ◌≢◌, ◌≤◌, ◌⊎◌, ℕ, Bool, true, false, List, length, Some, IsTrue, Result}
+use Rattle.std.specs.Prelude.{Ok, Err, is_ok}
 use Rattle.qna_edges.specs.Count.{Rose}
 use Rattle.qna_edges.specs.Paper.{Paper, Writes}
-use Rattle.qna_edges.specs.Shelves.{Shelves, OnlyRead}
+use Rattle.qna_edges.specs.Shelves.{Shelves, IsReadOnce, OnlyRead}
 use Rattle.qna_edges.specs.declared.status.Status.{Status}
 use Rattle.qna_edges.specs.declared.status.Status.TheVariants.{Done, Memory, PlanFault, OpenFault, ReadFault, TooMuch}
 use Rattle.series_tables.specs.Plan.{PlanShape, PlanRefusal, plan_of}
 use Rattle.qna_parts.specs.Intake.{most_bytes}
 use Rattle.qna_parts.specs.Making.{Making}
 use Rattle.qna_parts.specs.StatusLine.{plan_line}
-use Rattle.qna_parts.specs.Trace.{trace_of, OnText, IsReadWhole, IsOnlyRead, IsNotCreated, IsCreatedOnce, EndsUnread}
+use Rattle.qna_parts.specs.Trace.{trace_of, OnText, IsReadWhole, IsNotCreated, IsCreatedOnce, EndsUnread}
 use Rattle.qna_parts.specs.CommandEnd.{EndsWithPlan}
 
 -- the most bytes of a plan
@@ -21,19 +22,21 @@ abbrev pub OnRefused : Result PlanShape PlanRefusal → (PlanRefusal → Type 0)
 OnRefused (Ok plan) P = ⊥
 OnRefused (Err refusal) P = P refusal
 
--- of two files one was only opened and read, and one created once at most; no other was touched, and as many are out
+-- of two files one was only opened and read, once at most, and one created, once at most; no other was touched, and as
+-- many are out
 pub record OnlyBetween (old new : Shelves) (input output : List ℕ) : Type 0 where
   pub others : (n : List ℕ) → n ≢ input → n ≢ output → new.under n ≡ old.under n
-  pub read : IsOnlyRead (trace_of old new input)
+  pub read : IsReadOnce (old.under input) (new.under input)
   pub written : IsNotCreated (trace_of old new output) ⊎ IsCreatedOnce (trace_of old new output)
   pub tells : new.tells ≡ old.tells
   pub out : new.out ≡ old.out
 
--- of three files two were only opened and read, and one created once at most; no other was touched, and as many are out
+-- of three files two were only opened and read, once at most, and one created, once at most; no other was touched, and
+-- as many are out
 pub record OnlyCommand (old new : Shelves) (plan input output : List ℕ) : Type 0 where
   pub others : (n : List ℕ) → n ≢ plan → n ≢ input → n ≢ output → new.under n ≡ old.under n
-  pub planned : IsOnlyRead (trace_of old new plan)
-  pub read : IsOnlyRead (trace_of old new input)
+  pub planned : IsReadOnce (old.under plan) (new.under plan)
+  pub read : IsReadOnce (old.under input) (new.under input)
   pub written : IsNotCreated (trace_of old new output) ⊎ IsCreatedOnce (trace_of old new output)
   pub tells : new.tells ≡ old.tells
   pub out : new.out ≡ old.out

@@ -1,5 +1,6 @@
 -- How a command ends that makes a text of a plan and an input.
-use Rattle.std.specs.Prelude.{◌≡◌, ◌≤◌, ◌<◌, ◌⊎◌, ℕ, ◌+◌, ◌-◌, Bool, true, false, List, length, take, codes, Option, Some}
+use Rattle.std.specs.Prelude.{◌≡◌, ◌≤◌, ◌<◌, ◌⊎◌, ℕ, ◌+◌, ◌-◌, Bool, true, false, List, length, take, codes}
+use Rattle.std.specs.Prelude.{Option, Some}
 use Rattle.qna_edges.specs.Count.{Rose}
 use Rattle.qna_edges.specs.Paper.{Paper, grown, BreaksOff, Writes}
 use Rattle.qna_edges.specs.declared.status.Status.{Status}
@@ -12,17 +13,18 @@ use Rattle.qna_parts.specs.Report.{ReportsFirst, ReportsThen, WritesBoth}
 use Rattle.qna_parts.specs.StatusLine.{named_line}
 use Rattle.qna_parts.specs.Trace.{Trace, OnText, IsReadWhole, IsNotCreated, IsCreatedOnce, IsEmptied}
 
--- a file holds a beginning of a text
+-- a file holds a beginning of a text, but not all of it
 unfoldable pub HoldsPart : Option (List ℕ) → List ℕ → Type 0
-HoldsPart file text = (k : ℕ) × (k ≤ length text) × (file ≡ Some (take k text))
+HoldsPart file text = (k : ℕ) × (k < length text) × (file ≡ Some (take k text))
 
--- at the end of all, the output holds what is made of the accepted inputs, the report has each refused line, and the
--- input was read to its end
+-- at the end of all, the output holds what is made of the accepted inputs, the report has each refused line, the input
+-- was read to its end, and nothing failed
 pub record EndsWhole (made : Making) (plan : PlanShape) (input output : Trace) (before after : Paper) : Type 0 where
   pub written : OnText input (λ text. output.new.file ≡ Some (made plan (accepted plan text)))
   pub reported : OnText input (λ text. after ≡ grown before (refusals_text plan text))
   pub read : IsReadWhole most_bytes input
   pub created : IsCreatedOnce output
+  pub unfailed : output.new.writes ≡ output.old.writes
 
 -- the input can't be opened: its name is reported, and the output is as it was
 pub record InputUnopened (input output : Trace) (before after : Paper) : Type 0 where
@@ -61,8 +63,8 @@ pub record ReportUnwritten (plan : PlanShape) (input output : Trace) (before aft
   pub within : OnText input (λ text. length text ≤ most_bytes + input.new.rest)
   pub emptied : IsEmptied output
 
--- the output can't be written: it holds a beginning of what is made of the accepted inputs, and the report has each
--- refused line, and then the output's name
+-- the output can't be written: it holds a beginning of what is made of the accepted inputs, but not all, and the report
+-- has each refused line, and then the output's name
 pub record OutputUnwritten (made : Making) (plan : PlanShape) (input output : Trace) (before after : Paper)
     : Type 0 where
   pub rose : Rose output.old.writes output.new.writes
@@ -73,11 +75,11 @@ pub record OutputUnwritten (made : Making) (plan : PlanShape) (input output : Tr
   pub created : IsCreatedOnce output
 
 -- memory is wanting: the report has the first refused lines, and the output is as it was, or was created once and holds
--- a beginning of what is made of the accepted inputs
+-- nothing, or a beginning of what is made of the accepted inputs, but not all
 pub record WantsMemory (made : Making) (plan : PlanShape) (input output : Trace) (before after : Paper) : Type 0 where
   pub told : OnText input (λ text. ReportsFirst plan before after text)
-  pub held : (output.new ≡ output.old)
-      ⊎ (IsCreatedOnce output × OnText input (λ text. HoldsPart output.new.file (made plan (accepted plan text))))
+  pub held : (output.new ≡ output.old) ⊎ (IsEmptied output
+      ⊎ (IsCreatedOnce output × OnText input (λ text. HoldsPart output.new.file (made plan (accepted plan text)))))
 
 -- how a command can end once its input and its output are there
 abbrev pub ends_a_transfer : Status → Bool

@@ -1,13 +1,15 @@
 -- What is reported of the refused lines of an input, and how far an input was taken (this product's own).
-use Rattle.std.specs.Prelude.{◌≡◌, ◌≤◌, ◌⊎◌, ℕ, ◌-◌, false, List, [], ◌∷◌, ◌++◌, length, take, codes, decimal}
+use Rattle.std.specs.Prelude.{◌≡◌, ◌≤◌, ◌⊎◌, ℕ, ◌-◌, false, List, [], ◌∷◌, ◌++◌, length, take, codes, decimal, Some}
 use Rattle.qna_edges.specs.Count.{Rose}
 use Rattle.qna_edges.specs.Paper.{Paper, grown, WasRefused, BreaksOff}
+use Rattle.qna_edges.specs.Stock.{Stock, OnLeft}
 use Rattle.line_form.specs.Lines.{TextLine, Cutting, IsCutOf, ended_lines}
 use Rattle.series_tables.specs.Plan.{PlanShape}
 use Rattle.series_tables.specs.Cells.{Rows}
 use Rattle.std.specs.List.{filter_map}
 use Rattle.series_tables.specs.declared.input.Input.{Input}
-use Rattle.input_rules.specs.Accepted.{RefusedLine, most_inputs, judged_lines, taken, accepted_of, refusals_of, refusals}
+use Rattle.input_rules.specs.Accepted.{RefusedLine, most_inputs, judged_lines, taken, accepted_of}
+use Rattle.input_rules.specs.Accepted.{refusals_of, refusals}
 use Rattle.input_rules.specs.Lines.{cause_text}
 use Rattle.qna_parts.specs.Making.{HoldsLast}
 
@@ -53,6 +55,11 @@ pub record IsReady (plan : PlanShape) (lines : Cutting) (rows : Rows) (count : �
   pub goes_on : lines.ended ≡ false
   pub none_waits : lines.waiting ≡ []
   pub all_written : unwritten ≡ []
+
+-- a source was read to its end, within the limit of an input, and nothing failed
+abbrev pub IsTakenWhole : Stock → Stock → Type 0
+IsTakenWhole old new =
+    (new.faults ≡ old.faults) × OnLeft old (λ text. (length text ≤ most_bytes) × (new.left ≡ Some []))
 
 -- a report stopped: it has what was whole before and no more, or it refused a write, and is broken off within a text
 abbrev pub Stops : Paper → Paper → List ℕ → List ℕ → Type 0

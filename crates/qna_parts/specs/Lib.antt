@@ -6,3 +6,4 @@ pub mod Making
 pub mod Report
 pub mod StatusLine
 pub mod Trace
+pub mod Transfer

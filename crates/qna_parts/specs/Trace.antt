@@ -1,5 +1,5 @@
 -- What a command did to one file.
-use Rattle.std.specs.Prelude.{◌≡◌, ℕ, ◌+◌, ◌≤◌, ◌<◌, Bool, IsTrue, List, [], length, codes, IfSome, Some}
+use Rattle.std.specs.Prelude.{◌≡◌, ℕ, ◌+◌, ◌≤◌, ◌<◌, Bool, IsTrue, List, [], length, codes, IfSome, IsSome, Some}
 use Rattle.qna_edges.specs.Count.{Rose}
 use Rattle.qna_edges.specs.Paper.{Paper, Writes}
 use Rattle.qna_edges.specs.Shelves.{Shelf, Shelves}
@@ -23,14 +23,11 @@ trace_of old new name = record { name = name; tells = old.tells; old = old.under
 abbrev pub OnText : Trace → (List ℕ → Type 0) → Type 0
 OnText file P = IsTrue file.tells → IfSome file.old.file P
 
--- a file was read to its end, and is within a limit
-abbrev pub IsReadWhole : ℕ → Trace → Type 0
-IsReadWhole limit file = OnText file (λ text. (length text ≤ limit) × (file.new.rest ≡ 0))
-
--- a file was opened and read, and nothing else was done to it
-abbrev pub IsOnlyRead : Trace → Type 0
-IsOnlyRead file =
-    file.new ≡ record file.old { opens = file.new.opens; reads = file.new.reads; rest = file.new.rest }
+-- a file was opened once and read to its end, which is within a limit, and nothing failed
+pub record IsReadWhole (limit : ℕ) (file : Trace) : Type 0 where
+  pub once : file.new ≡ record file.old { sources = file.old.sources + 1; rest = file.new.rest }
+  pub stands : IsTrue file.tells → IsSome file.old.file
+  pub whole : OnText file (λ text. (length text ≤ limit) × (file.new.rest ≡ 0))
 
 -- nothing was created there, though the creating may have failed
 abbrev pub IsNotCreated : Trace → Type 0
@@ -39,7 +36,7 @@ IsNotCreated file = file.new ≡ record file.old { creates = file.new.creates }
 -- one sink was given for it, and came back
 abbrev pub IsCreatedOnce : Trace → Type 0
 IsCreatedOnce file =
-    file.new ≡ record file.old { given = file.old.given + 1; writes = file.new.writes; file = file.new.file }
+    file.new ≡ record file.old { sinks = file.old.sinks + 1; writes = file.new.writes; file = file.new.file }
 
 -- one sink was given for it, and came back with nothing in it
 pub record IsEmptied (file : Trace) : Type 0 where

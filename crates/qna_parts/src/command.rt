@@ -41,7 +41,7 @@ fn tell_unopened<R: Sink>(report: &mut R, refused: Refused, name: &str) -> Statu
 }
 
 /// Opens the input, creates the output, carries out the transfer, and hands both back.
-#[tactic(auto, unfolding(crate::specs::CommandEnd::HoldsPart))]
+#[tactic(auto, unfolding(crate::specs::CommandEnd::HoldsPart), using(qna_edges::proofs::Stock::capped_none))]
 fn between<M: Make, C: Cabinet, R: Sink>(
     alloc: Global,
     maker: &M,
@@ -88,8 +88,9 @@ fn between<M: Make, C: Cabinet, R: Sink>(
 /// Carries out a command with three different files: reads the plan, at most 2^20 bytes, takes the input, at most 2^30
 /// bytes, reporting each refused line of it, and writes what is made of all accepted inputs to the output.
 ///
-/// At an end for a fault the report has a line at its end that names the file, or the plan's refused line. Nothing is
-/// created before the plan is known and the input is open, and all that was opened or created is handed back.
+/// At an end for a fault of a file the report has a line at its end that names the file, or the plan's refused line;
+/// there is no such line for want of memory and where the report itself fails. No file is opened or created more than
+/// once, nothing is created before the plan is known and the input is open, and all is handed back.
 pub fn carry_out<M: Make, C: Cabinet, R: Sink>(
     alloc: Global,
     maker: &M,

@@ -11,7 +11,8 @@ ghost use Rattle.series_tables.specs.Cells.{cell};
 ghost use Rattle.series_tables.specs.declared.input.Kind.{Kind as KindOf};
 ghost use Rattle.input_rules.specs.Accepted.{refusals_after};
 ghost use Rattle.qna_parts.specs.Intake.{Stops, Breaks, most_bytes, refusal_lines, accepted_after};
-ghost use Rattle.qna_parts.specs.Intake.{HasTaken, IsTakenTo, IsReady, refusals_text, ended_refusals_text};
+ghost use Rattle.qna_parts.specs.Intake.{HasTaken, IsTakenTo, IsTakenWhole, IsReady, refusals_text};
+ghost use Rattle.qna_parts.specs.Intake.{ended_refusals_text};
 ghost use Rattle.qna_parts.specs.Report.{ReportsFirst};
 ghost use Rattle.qna_parts.specs.Faults.{untaken_of};
 ghost use Rattle.qna_parts.specs.declared.intake.Untaken.TheVariants.{Memory as WantOfMemory};
@@ -83,7 +84,9 @@ struct Intake {
 /// refused line, which is written before more of the input is read.
 ///
 /// An input of more than 2^30 bytes is taken as far as that, and no further. `TooMuch` is then the answer also where
-/// the report failed; only want of memory comes before it.
+/// the piece that passes the limit holds a refused line that the report refuses; only want of memory comes before it.
+/// A report that refuses a line of an earlier piece ends the taking with `Report`.
+#[tactic(auto, using(qna_edges::proofs::Stock::of_reads))]
 pub fn take_input<S: Source, R: Sink>(
     alloc: Global,
     plan: &Plan,
@@ -96,8 +99,7 @@ pub fn take_input<S: Source, R: Sink>(
         HasTaken plan.now (lines_of text) taken.tables taken.accepted)) }
     ensures reported { OnOk result (OnLeft (S.stock source.old) (λ text.
         R.paper report.new ≡ grown (R.paper report.old) (refusals_text plan.now text))) }
-    ensures ended { OnOk result (OnLeft (S.stock source.old) (λ text.
-        (length text ≤ most_bytes) × ((S.stock source.new).left ≡ Some []))) }
+    ensures ended { OnOk result (IsTakenWhole (S.stock source.old) (S.stock source.new)) }
     ensures read { IsErrOf result Untaken.Read →
         OnLeftAndRest (S.stock source.old) (S.stock source.new) (λ text rest.
         R.paper report.new ≡ grown (R.paper report.old)
@@ -147,7 +149,8 @@ pub fn take_input<S: Source, R: Sink>(
     }
 }
 
-/// Why an input that passes its limit isn't taken: for want of memory, or else for its size, also where the report failed.
+/// Why an input isn't taken whose limit was passed by a piece, of which this was taken: for want of memory, or else for
+/// its size, also where the report refused a line of the piece.
 fn passed_limit(taken: Result<(), Untaken>) -> Untaken
     ensures memory { result ≡ Untaken.Memory → IsErrOf taken Untaken.Memory }
     ensures size { result ≡ Untaken.TooMuch → IfErr taken (λ untaken. untaken ≢ Untaken.Memory) }

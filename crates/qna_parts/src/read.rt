@@ -4,6 +4,7 @@ ghost use Rattle.std.specs.Prelude.{◌≡◌, ◌≢◌, ◌<◌, ◌≤◌, �
 ghost use Rattle.qna_edges.specs.Count.{Rose};
 ghost use Rattle.qna_edges.specs.Stock.{OnLeft, OnLeftAndRest, WasRead};
 ghost use Rattle.qna_edges.specs.Shelves.{OnFile, OpenRose, ReadRose, OnlyRead};
+ghost use Rattle.qna_parts.specs.Trace.{trace_of, IsReadWhole};
 
 use qna_edges::{Cabinet, Failed, Refused, Source};
 use std::alloc::Global;
@@ -22,10 +23,12 @@ pub enum Unread {
 }
 
 /// Reads a source to its end, if it gives no more bytes than a limit.
+#[tactic(auto, using(qna_edges::proofs::Stock::of_reads))]
 pub fn read_all<S: Source>(alloc: Global, source: &mut S, limit: usize) -> Result<Vec<u8>, Unread>
     ensures text { IfOk result (λ bytes. OnLeft (S.stock source.old) (λ text. bytes.items ≡ text)) }
     ensures ended { OnOk result (OnLeft (S.stock source.old) (λ text.
         (S.stock source.new).left ≡ Some [])) }
+    ensures well { OnOk result ((S.stock source.new).faults ≡ (S.stock source.old).faults) }
     ensures within { IfOk result (λ bytes. length bytes.items ≤ limit) }
     ensures passed { IsErrOf result Unread.TooMuch →
         OnLeftAndRest (S.stock source.old) (S.stock source.new) (λ text rest.
@@ -57,14 +60,17 @@ pub fn read_all<S: Source>(alloc: Global, source: &mut S, limit: usize) -> Resul
 }
 
 /// Reads the file of a name to its end, if it has no more bytes than a limit, and hands its source back.
+#[tactic(auto, using(qna_edges::proofs::Stock::capped_none))]
 pub fn read_file<C: Cabinet>(
     alloc: Global,
     cabinet: &mut C,
     name: &str,
     limit: usize,
 ) -> Result<Vec<u8>, Unread>
-    ensures text { IfOk result (λ bytes. OnFile (C.shelves cabinet.old) name.now (λ text.
-        (bytes.items ≡ text) × (((C.shelves cabinet.new).under name.now).rest ≡ 0))) }
+    ensures text { IfOk result (λ bytes.
+        OnFile (C.shelves cabinet.old) name.now (λ text. bytes.items ≡ text)) }
+    ensures whole { OnOk result (IsReadWhole limit
+        (trace_of (C.shelves cabinet.old) (C.shelves cabinet.new) name.now)) }
     ensures within { IfOk result (λ bytes. length bytes.items ≤ limit) }
     ensures passed { IsErrOf result Unread.TooMuch →
         OnFile (C.shelves cabinet.old) name.now (λ text.

@@ -3,7 +3,8 @@
 
 ghost use Rattle.std.specs.Prelude.{◌≡◌, ◌≤◌, ◌++◌, ◌⊎◌, codes, OnOk, IsErrOf};
 ghost use Rattle.qna_edges.specs.Paper.{Prints, Writes};
-ghost use Rattle.qna_parts.specs.StatusLine.{word_line, named_line, pair_line, status_of_unread, unread_line, status_of_untaken, untaken_line, plan_line};
+ghost use Rattle.qna_parts.specs.StatusLine.{word_line, named_line, pair_line, status_of_unread, unread_line};
+ghost use Rattle.qna_parts.specs.StatusLine.{status_of_untaken, untaken_line, plan_line};
 
 use crate::intake::Untaken;
 use crate::read::Unread;

@@ -1,16 +1,15 @@
 //! From an input to an output: the input taken, a text made of it, and the text written.
 
 ghost use Rattle.std.specs.Prelude.{◌≡◌, ◌≢◌, ◌<◌, ◌≤◌, ◌+◌, ◌-◌, ◌⊎◌, ℕ, List, Some, [], length, take, codes, true};
-ghost use Rattle.std.specs.Io.KnownBytes.{Appends, Keeps};
 ghost use Rattle.qna_edges.specs.Count.{Rose};
 ghost use Rattle.qna_edges.specs.Paper.{grown, BreaksOff, Writes, WasWritten};
 ghost use Rattle.qna_edges.specs.Stock.{OnLeft, OnLeftAndRest, WasRead};
-ghost use Rattle.qna_edges.specs.Told.{AppendsPrefix};
 ghost use Rattle.input_rules.specs.Accepted.{accepted};
-ghost use Rattle.qna_parts.specs.Intake.{most_bytes, refusals_text, ended_refusals_text};
+ghost use Rattle.qna_parts.specs.Intake.{most_bytes, refusals_text, ended_refusals_text, IsTakenWhole};
 ghost use Rattle.qna_parts.specs.StatusLine.{named_line};
 ghost use Rattle.qna_parts.specs.Report.{ReportsFirst, ReportsThen, WritesBoth};
 ghost use Rattle.qna_parts.specs.CommandEnd.{ends_a_transfer};
+ghost use Rattle.qna_parts.specs.Transfer.{transfer_of, ReportBreaks, OutputBreaks};
 
 use crate::intake::take_input;
 use crate::making::Make;
@@ -24,8 +23,9 @@ use std::alloc::Global;
 #[tactic(auto, using(qna_edges::proofs::Paper::printed, qna_edges::proofs::Paper::told_of))]
 fn deliver<K: Sink, R: Sink>(text: &[u8], sink: &mut K, name: &str, report: &mut R) -> Status
     ensures done { result ≡ Status.Done →
-        Appends (K.paper sink.old).held (K.paper sink.new).held text.now }
-    ensures part { AppendsPrefix (K.paper sink.old).held (K.paper sink.new).held text.now }
+        K.paper sink.new ≡ grown (K.paper sink.old) text.now }
+    ensures broken { (result ≡ Status.WriteFault) ⊎ (result ≡ Status.Memory) →
+        BreaksOff (K.paper sink.old) (K.paper sink.new) text.now }
     ensures failed { result ≡ Status.WriteFault →
         Rose (K.paper sink.old).faults (K.paper sink.new).faults }
     ensures told { result ≡ Status.WriteFault →
@@ -59,24 +59,26 @@ pub(crate) fn transfer<M: Make, S: Source, K: Sink, R: Sink>(
     report: &mut R,
 ) -> Status
     ensures done { result ≡ Status.Done → OnLeft (S.stock source.old) (λ text.
-        Appends (K.paper sink.old).held (K.paper sink.new).held
+        K.paper sink.new ≡ grown (K.paper sink.old)
         (M.text maker.now plan.now (accepted plan.now text))) }
     ensures told { result ≡ Status.Done → OnLeft (S.stock source.old) (λ text.
         R.paper report.new ≡ grown (R.paper report.old) (refusals_text plan.now text)) }
-    ensures ended { result ≡ Status.Done → OnLeft (S.stock source.old) (λ text.
-        (length text ≤ most_bytes) × ((S.stock source.new).left ≡ Some [])) }
-    ensures part { OnLeft (S.stock source.old) (λ text.
-        AppendsPrefix (K.paper sink.old).held (K.paper sink.new).held
-        (M.text maker.now plan.now (accepted plan.now text))) }
+    ensures ended { result ≡ Status.Done →
+        IsTakenWhole (S.stock source.old) (S.stock source.new) }
+    ensures unfailed { result ≡ Status.Done →
+        (K.paper sink.new).faults ≡ (K.paper sink.old).faults }
     ensures memory { result ≡ Status.Memory → OnLeft (S.stock source.old) (λ text.
         ReportsFirst plan.now (R.paper report.old) (R.paper report.new) text) }
+    ensures memory_part { result ≡ Status.Memory → (K.paper sink.new ≡ K.paper sink.old)
+        ⊎ OnLeft (S.stock source.old) (λ text. BreaksOff (K.paper sink.old) (K.paper sink.new)
+        (M.text maker.now plan.now (accepted plan.now text))) }
+    ensures unwritten { (result ≡ Status.ReadFault) ⊎ (result ≡ Status.TooMuch) →
+        K.paper sink.new ≡ K.paper sink.old }
     ensures read_failed { result ≡ Status.ReadFault →
         Rose (S.stock source.old).faults (S.stock source.new).faults }
     ensures read_within { result ≡ Status.ReadFault →
         OnLeftAndRest (S.stock source.old) (S.stock source.new) (λ text rest.
         length text ≤ most_bytes + length rest) }
-    ensures read_unwritten { result ≡ Status.ReadFault →
-        Keeps (K.paper sink.old).held (K.paper sink.new).held }
     ensures read_told { result ≡ Status.ReadFault →
         OnLeftAndRest (S.stock source.old) (S.stock source.new) (λ text rest.
         ReportsThen (R.paper report.old) (R.paper report.new)
@@ -85,24 +87,15 @@ pub(crate) fn transfer<M: Make, S: Source, K: Sink, R: Sink>(
     ensures passed { result ≡ Status.TooMuch →
         OnLeftAndRest (S.stock source.old) (S.stock source.new) (λ text rest.
         most_bytes + length rest < length text) }
-    ensures passed_unwritten { result ≡ Status.TooMuch →
-        Keeps (K.paper sink.old).held (K.paper sink.new).held }
     ensures passed_told { result ≡ Status.TooMuch → OnLeft (S.stock source.old) (λ text.
         WritesBoth (R.paper report.old) (R.paper report.new)
         (ended_refusals_text plan.now (take most_bytes text))
         (named_line (codes "toomuch") input.now)) }
     ensures write_fault { result ≡ Status.WriteFault →
-        (Rose (R.paper report.old).faults (R.paper report.new).faults
-        × Keeps (K.paper sink.old).held (K.paper sink.new).held
-        × OnLeft (S.stock source.old) (λ text.
-        BreaksOff (R.paper report.old) (R.paper report.new) (refusals_text plan.now text))
-        × OnLeftAndRest (S.stock source.old) (S.stock source.new) (λ text rest.
-        length text ≤ most_bytes + length rest))
-        ⊎ (Rose (K.paper sink.old).faults (K.paper sink.new).faults
-        × OnLeft (S.stock source.old) (λ text.
-        (length text ≤ most_bytes) × ((S.stock source.new).left ≡ Some [])
-        × ReportsThen (R.paper report.old) (R.paper report.new)
-        (refusals_text plan.now text) (named_line (codes "write") output.now))) }
+        let before = transfer_of (S.stock source.old) (K.paper sink.old) (R.paper report.old) in
+        let after = transfer_of (S.stock source.new) (K.paper sink.new) (R.paper report.new) in
+        ReportBreaks plan.now before after
+        ⊎ OutputBreaks (M.text maker.now) plan.now before after output.now }
     ensures ends { ends_a_transfer result ≡ true }
     ensures only_read { WasRead (S.stock source.old) (S.stock source.new) }
     ensures only_written { WasWritten (K.paper sink.old) (K.paper sink.new) }

@@ -1,6 +1,7 @@
 use Rattle.std.proofs.Common.{◌≡◌, ◌≤◌, ◌+◌, ◌++◌, take, arith, refl, rules, inl}
 use Rattle.qna_parts.specs.Intake.{most_bytes}
 use Rattle.qna_parts.specs.declared.intake.Untaken.TheVariants as untaken
+use Rattle.qna_edges.proofs.Stock.{faults_given, name_given}
 use Rattle.qna_parts.proofs.Success.{on_error, on_success}
 use Rattle.qna_parts.proofs.Reading.{report_begun, read_begun, at_end, with_piece, read_failed, taken_of, grown_of, stopped_piece, stopped_end, broken_piece, passed_piece, within_limit, past_limit, below_limit, at_end_within, at_end_left, to_place}
 use Rattle.qna_parts.proofs.intake.take_input.Goals as goal
@@ -12,6 +13,7 @@ reading-init g c = (
   read_begun c.args.plan.now _ _ c.in_ok-intake.intake.lines c.in_ok-intake.intake.tables c.in_ok-intake.intake.accepted c.in_ok-intake.ensures.taken,
   search rules,
   omega arith,
+  refl,
 )
 
 pub returns-in_err-intake-clause-memory : goal.returns-in_err-intake-clause-memory
@@ -42,8 +44,10 @@ returns-in-Ok-eq0-clause-reported g c =
     (λ text size taken grown. c.in_ok-take_end-in-Ok-eq0.ensures.reported text _ taken grown)
 
 pub returns-in-Ok-eq0-clause-ended : goal.returns-in-Ok-eq0-clause-ended
-returns-in-Ok-eq0-clause-ended g c =
-    at_end_left c.args.plan.now _ _ _ _ _ c.reading.size most_bytes c.reading.intake.lines c.reading.intake.tables c.reading.intake.accepted c.in-Ok-eq0.field-0 c.read.new.buf c.reading.invariant.2 c.reading.invariant.1 (search rules) (search rules) c.in-Ok-eq0.ensures.bytes.0 c.in-Ok-eq0.ensures.bytes.1
+returns-in-Ok-eq0-clause-ended g c = (
+  search (rules, faults_given),
+  at_end_left c.args.plan.now _ _ _ _ _ c.reading.size most_bytes c.reading.intake.lines c.reading.intake.tables c.reading.intake.accepted c.in-Ok-eq0.field-0 c.read.new.buf c.reading.invariant.2 c.reading.invariant.1 (search rules) (search rules) c.in-Ok-eq0.ensures.bytes.0 c.in-Ok-eq0.ensures.bytes.1,
+)
 
 pub returns-then-fits-count-clause-passed : goal.returns-then-fits-count-clause-passed
 returns-then-fits-count-clause-passed g c = λ is.
@@ -92,8 +96,9 @@ reading-preserved g c =
             taken_of c.args.plan.now _ _ _ _ (take (c.reading.size + c.in-Ok.count) text) here (on_success c.take_piece-taken.result (search rules) (c.take_piece-taken.ensures.taken (take c.reading.size text) taken)),
             grown_of c.args.plan.now _ _ _ (take (c.reading.size + c.in-Ok.count) text) here (on_success c.take_piece-taken.result (search rules) (c.take_piece-taken.ensures.reported (take c.reading.size text) _ taken grown)),
           )),
+      search (rules, faults_given, name_given),
       search rules,
-      search rules,
+      search (rules, faults_given),
     )
 
 pub returns-in-Err-clause-read : goal.returns-in-Err-clause-read

@@ -1,4 +1,4 @@
-use Rattle.std.proofs.Common.{◌≤◌, ◌-◌}
+use Rattle.std.proofs.Common.{◌≡◌, ◌≤◌, ◌-◌}
 use Rattle.qna_edges.specs.Stock.{WasRead}
 use Rattle.qna_parts.specs.Intake.{IsReady}
 use Rattle.qna_parts.proofs.Reading.{IsReadTo}
@@ -12,6 +12,7 @@ invariant-reading g l =
     × IsReadTo l.plan (g.S.Source.stock l.fn.source).left (g.S.Source.stock l.source).left (g.R.Sink.paper l.fn.report) (g.R.Sink.paper l.report) l.size l.intake.lines l.intake.tables l.intake.accepted
     × WasRead (g.S.Source.stock l.fn.source) (g.S.Source.stock l.source)
     × ((g.R.Sink.paper l.fn.report).faults ≤ (g.R.Sink.paper l.report).faults)
+    × ((g.S.Source.stock l.source).faults ≡ (g.S.Source.stock l.fn.source).faults)
 
 abbrev pub decreases-reading : goal.decreases-reading
 decreases-reading g l = 1073741824 - l.size

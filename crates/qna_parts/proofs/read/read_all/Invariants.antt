@@ -7,7 +7,7 @@ abbrev pub invariant-reading : goal.invariant-reading
 invariant-reading g l =
     Consumes (g.S.Source.stock l.fn.source).left (g.S.Source.stock l.source).left l.bytes.items
     × (vec_len l.bytes ≤ l.limit)
-    × ((g.S.Source.stock l.fn.source).faults ≤ (g.S.Source.stock l.source).faults)
+    × ((g.S.Source.stock l.source).faults ≡ (g.S.Source.stock l.fn.source).faults)
     × ((g.S.Source.stock l.source).name ≡ (g.S.Source.stock l.fn.source).name)
 
 abbrev pub decreases-reading : goal.decreases-reading

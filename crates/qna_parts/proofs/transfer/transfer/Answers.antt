@@ -1,7 +1,7 @@
-use Rattle.std.proofs.Common.{◌-◌, length, take, inr, refl}
+use Rattle.std.proofs.Common.{◌-◌, length, take, inl, inr, refl}
 use Rattle.input_rules.specs.Accepted.{accepted}
 use Rattle.qna_parts.specs.Intake.{most_bytes, refusals_text, ended_refusals_text}
-use Rattle.qna_parts.proofs.Ends.{read_told, passed_told, made_of_input, grown_by, part_by, output_told, first_of_all}
+use Rattle.qna_parts.proofs.Ends.{read_told, passed_told, made_of_input, grown_by, broken_by, output_told, first_of_all}
 use Rattle.qna_parts.proofs.transfer.transfer.Goals as goal
 
 pub returns-in-Err-clause-read_told : goal.returns-in-Err-clause-read_told
@@ -17,17 +17,20 @@ returns-in-Ok-make-clause-done g c = λ is.
     let made = made_of_input (g.M.Make.text c.args.maker.now) c.args.plan.now _ c.in-Ok.taken.tables c.in-Ok.taken.accepted c.in-Ok-make.text.items c.in-Ok.ensures.taken c.in-Ok-make.ensures in
     grown_by _ _ _ c.in-Ok-make.text.items (λ text. g.M.Make.text c.args.maker.now c.args.plan.now (accepted c.args.plan.now text)) made (rw c.deref.ensures.value at (c.deliver.ensures.done is))
 
-pub returns-in-Ok-make-clause-part : goal.returns-in-Ok-make-clause-part
-returns-in-Ok-make-clause-part g c =
+pub returns-in-Ok-make-clause-memory_part : goal.returns-in-Ok-make-clause-memory_part
+returns-in-Ok-make-clause-memory_part g c = λ is.
     let made = made_of_input (g.M.Make.text c.args.maker.now) c.args.plan.now _ c.in-Ok.taken.tables c.in-Ok.taken.accepted c.in-Ok-make.text.items c.in-Ok.ensures.taken c.in-Ok-make.ensures in
-    part_by _ _ _ c.in-Ok-make.text.items (λ text. g.M.Make.text c.args.maker.now c.args.plan.now (accepted c.args.plan.now text)) made (rw c.deref.ensures.value at c.deliver.ensures.part)
+    inr (broken_by _ _ _ c.in-Ok-make.text.items (λ text. g.M.Make.text c.args.maker.now c.args.plan.now (accepted c.args.plan.now text)) made (rw c.deref.ensures.value at (c.deliver.ensures.broken (inr is))))
 
 pub returns-in-Ok-make-clause-write_fault : goal.returns-in-Ok-make-clause-write_fault
 returns-in-Ok-make-clause-write_fault g c = λ is.
-    inr (
-      c.deliver.ensures.failed is,
-      output_told _ _ _ _ _ most_bytes c.args.output.now (λ text. refusals_text c.args.plan.now text) c.in-Ok.ensures.reported c.in-Ok.ensures.ended (c.deliver.ensures.told is),
-    )
+    let made = made_of_input (g.M.Make.text c.args.maker.now) c.args.plan.now _ c.in-Ok.taken.tables c.in-Ok.taken.accepted c.in-Ok-make.text.items c.in-Ok.ensures.taken c.in-Ok-make.ensures in
+    inr (record {
+      rose = c.deliver.ensures.failed is;
+      broken = broken_by _ _ _ c.in-Ok-make.text.items (λ text. g.M.Make.text c.args.maker.now c.args.plan.now (accepted c.args.plan.now text)) made (rw c.deref.ensures.value at (c.deliver.ensures.broken (inl is)));
+      told = output_told _ _ _ _ c.args.output.now (λ text. refusals_text c.args.plan.now text) c.in-Ok.ensures.reported (c.deliver.ensures.told is);
+      taken = c.in-Ok.ensures.ended;
+    })
 
 pub returns-in-Ok-make-clause-memory : goal.returns-in-Ok-make-clause-memory
 returns-in-Ok-make-clause-memory g c = λ is.
