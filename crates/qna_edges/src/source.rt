@@ -5,6 +5,7 @@ ghost use Rattle.std.specs.Option.{option_map};
 ghost use Rattle.std.specs.String.{string_bytes};
 ghost use Rattle.std.specs.Io.{ReadsAtMost};
 ghost use Rattle.std.specs.Io.KnownBytes.{ReadConsumes};
+ghost use Rattle.qna_edges.specs.Stock.{GivesBytes, ReadFails};
 ghost use Rattle.qna_edges.specs.Memory.{Supply, stock_of, fails_at, next_number};
 
 use crate::{Failed, Source};
@@ -124,13 +125,13 @@ impl Source for MemSource {
         requires { 0 < length buf.old }
         ensures bound { ReadsAtMost result buf.new }
         ensures bytes { ReadConsumes (Some self.old.left) (Some self.new.left) result buf.new }
-        ensures same_name { self.new.name ≡ self.old.name }
+        ensures ok { OnOk result (GivesBytes (stock_of self.old) (stock_of self.new)) }
+        ensures failed { OnErr result (ReadFails (stock_of self.old) (stock_of self.new)) }
 
         ensures number { self.new.reads ≡ next_number self.old.reads }
         ensures fails { is_err result ≡ fails_at self.old.fails self.new.reads }
         ensures count { IfOk result (λ n.
             n ≡ min self.old.piece (min (length buf.old) (length self.old.left))) }
-        ensures well { OnOk result (self.new.faults ≡ self.old.faults) }
         ensures fault { OnErr result (self.new.faults ≡ next_number self.old.faults) }
         ensures same_piece { self.new.piece ≡ self.old.piece }
         ensures same_fails { self.new.fails ≡ self.old.fails }
