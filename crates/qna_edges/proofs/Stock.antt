@@ -1,5 +1,5 @@
 -- Stocks from which bytes are taken.
-use Rattle.std.proofs.Common.{◌≡◌, ◌≤◌, ◌∙◌, ℕ, ◌+◌, ◌-◌, ◌^◌, arith, refl, ap, min, max}
+use Rattle.std.proofs.Common.{◌≡◌, ℕ, arith, ap}
 use Rattle.qna_edges.specs.Count.{capped}
 use Rattle.qna_edges.specs.Stock.{Stock, GivesBytes, ReadFails}
 

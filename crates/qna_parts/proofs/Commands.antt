@@ -1,5 +1,5 @@
 -- How the parts of a command make up its end.
-use Rattle.std.proofs.Common.{◌≡◌, ◌≤◌, ◌<◌, ◌+◌, ℕ, Bool, true, false, List, length, Option, Some, None, refl, sym, ap, subst, ◌∙◌, codes, inl, inr}
+use Rattle.std.proofs.Common.{◌≡◌, ◌≤◌, ◌<◌, ◌+◌, ℕ, Bool, true, List, length, Option, Some, None, refl, sym, ap, subst, ◌∙◌, inl, inr}
 use Rattle.std.specs.Prelude.{◌≢◌, ◌⊎◌, IfSome, Ok}
 use Rattle.qna_edges.specs.Count.{Rose}
 use Rattle.qna_edges.specs.Paper.{Paper, Writes}
@@ -9,8 +9,8 @@ use Rattle.qna_edges.specs.declared.status.Status.TheVariants as status
 use Rattle.series_tables.specs.Plan.{PlanShape, plan_of}
 use Rattle.qna_parts.specs.Making.{Making}
 use Rattle.qna_parts.specs.Report.{ReportsFirst}
-use Rattle.qna_parts.specs.StatusLine.{named_line, status_of_unread, unread_line}
-use Rattle.qna_parts.specs.Trace.{Trace, trace_of, OnText, IsReadWhole, IsNotCreated, IsCreatedOnce, EndsUnread}
+use Rattle.qna_parts.specs.StatusLine.{status_of_unread, unread_line}
+use Rattle.qna_parts.specs.Trace.{Trace, trace_of, OnText, IsNotCreated, IsCreatedOnce, EndsUnread}
 use Rattle.qna_parts.specs.CommandEnd.{InputUnopened, OutputUncreated, WantsMemory, EndsWithPlan}
 use Rattle.qna_parts.specs.Command.{plan_limit, ends_at_plan, OnlyBetween, OnlyCommand, StopsAtPlan}
 use Rattle.qna_parts.specs.declared.read.Unread.{Unread}

@@ -1,6 +1,6 @@
 -- How a command ends where nothing fails.
 use Rattle.std.proofs.Common.{◌≡◌, ◌≤◌, ◌<◌, ◌+◌, ℕ, true, false, List, length, Option, Some, IfSome, inl, inr, refl, arith}
-use Rattle.std.specs.Prelude.{◌⊎◌, Result, Ok, Err, is_ok}
+use Rattle.std.specs.Prelude.{Result, Ok, Err, is_ok}
 use Rattle.qna_edges.specs.Paper.{Paper, Writes}
 use Rattle.qna_edges.specs.Shelves.{Shelves}
 use Rattle.qna_edges.specs.declared.status.Status.{Status}

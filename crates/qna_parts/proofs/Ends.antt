@@ -1,6 +1,6 @@
 -- What a transfer leaves, by what was taken of its input and made of it.
-use Rattle.std.proofs.Common.{◌≡◌, ◌≤◌, ◌<◌, ◌+◌, ℕ, true, false, List, [], length, take, Option, Some, None, refl, sym, ap, subst, ◌∙◌, codes, inl, inr, arith}
-use Rattle.std.specs.Prelude.{◌⊎◌, IfSome, Result, Ok, Err, is_ok}
+use Rattle.std.proofs.Common.{◌≡◌, ℕ, List, length, Option, Some, None, refl, sym, subst, ◌∙◌, codes}
+use Rattle.std.specs.Prelude.{IfSome}
 use Rattle.qna_edges.specs.Paper.{Paper, grown, BreaksOff, Writes}
 use Rattle.qna_edges.specs.declared.status.Status.{Status}
 use Rattle.qna_edges.specs.declared.status.Status.TheVariants.{ReadFault, TooMuch}
@@ -18,7 +18,7 @@ use Rattle.qna_parts.specs.declared.intake.Untaken.TheVariants as untaken
 use Rattle.qna_parts.proofs.Reading.{reports_all}
 
 -- what follows where something is there
-if_some : {X : Type 0} {P Q : X → Type 0} (found : Option X) → ((x : X) → P x → Q x) → IfSome found P → IfSome found Q
+pub if_some : {X : Type 0} {P Q : X → Type 0} (found : Option X) → ((x : X) → P x → Q x) → IfSome found P → IfSome found Q
 if_some None then fact = tt
 if_some (Some x) then fact = then x fact
 

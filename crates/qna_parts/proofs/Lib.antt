@@ -1,5 +1,6 @@
 pub mod Commands
 pub mod Completing
+pub mod Delivering
 pub mod Ends
 pub mod Streams
 pub mod Taking

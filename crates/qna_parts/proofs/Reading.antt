@@ -1,8 +1,8 @@
 -- What was read of an input, and what is then known of its report.
-use Rattle.std.proofs.Common.{◌≡◌, ◌≤◌, ◌<◌, ◌+◌, ◌-◌, ◌∙◌, ℕ, List, [], ◌∷◌, ◌++◌, length, take, drop, min, Option, Some, None, refl, sym, ap, subst, inl, inr, arith, length-drop, length-append}
+use Rattle.std.proofs.Common.{◌≡◌, ◌≤◌, ◌<◌, ◌+◌, ◌-◌, ◌∙◌, ℕ, List, [], ◌++◌, length, take, drop, Option, Some, None, refl, sym, ap, subst, inl, inr, arith, length-drop, length-append}
 use Rattle.std.specs.Prelude.{◌≢◌, IfSome, Result, Ok, Err, OnOk, IfErr, IsErrOf}
 use Rattle.std.specs.Io.KnownBytes.{Keeps, Consumes, IsAtEnd}
-use Rattle.std.proofs.lemmas.List.{take_all, append-nil, take-append-drop, take-append-le, take-take, length-take-le, drop-drop}
+use Rattle.std.proofs.lemmas.List.{take_all, take-append-drop, take-append-le, take-take, length-take-le, drop-drop}
 use Rattle.std.proofs.Math.Seq.{take-add, drop-append_seam}
 use Rattle.qna_edges.specs.Paper.{Paper, grown, BreaksOff, Writes}
 use Rattle.qna_edges.proofs.Paper.{grown_nothing}

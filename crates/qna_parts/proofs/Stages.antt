@@ -1,6 +1,5 @@
 -- How far an input is taken after each read.
-use Rattle.std.proofs.Common.{◌≡◌, ◌≤◌, ◌+◌, ◌∙◌, ℕ, ℤ, true, false, List, [], ◌++◌, length, Option, None, refl, sym, ap, inl, inr}
-use Rattle.std.proofs.lemmas.List.{append-nil}
+use Rattle.std.proofs.Common.{◌≡◌, ◌+◌, ◌∙◌, ℕ, true, false, List, [], ◌++◌, length, None, refl, sym, ap, inl, inr}
 use Rattle.qna_edges.specs.Paper.{Paper, grown, BreaksOff}
 use Rattle.qna_edges.proofs.Paper.{broken_first, broken_second, refuses_from, grown_nothing}
 use Rattle.qna_parts.specs.Intake.{Stops, Breaks}
@@ -10,10 +9,10 @@ use Rattle.series_tables.specs.Plan.{PlanShape}
 use Rattle.series_tables.specs.LastValue.{last_from}
 use Rattle.series_tables.specs.Cells.{Rows, cell}
 use Rattle.series_tables.specs.declared.input.Kind.{Kind}
-use Rattle.input_rules.specs.Accepted.{accepted_of, refusals_of, refusals_after, refusals}
+use Rattle.input_rules.specs.Accepted.{accepted_of, refusals_after, refusals}
 use Rattle.input_rules.proofs.MoreLines.{accepted_of_none, refusals_of_none}
 use Rattle.qna_parts.specs.Intake.{refusal_lines, accepted_after, HasTaken, IsTakenTo, refusals_text, ended_refusals_text}
-use Rattle.qna_parts.proofs.Streams.{ended_lines-front, lines_of-front}
+use Rattle.qna_parts.proofs.Streams.{lines_of-front}
 use Rattle.qna_parts.proofs.Taking.{taken_more, reported_more}
 
 -- the ended lines of no bytes

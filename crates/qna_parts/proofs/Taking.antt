@@ -1,5 +1,5 @@
 -- What lines give where they follow other lines, and what one line more gives.
-use Rattle.std.proofs.Common.{◌≡◌, ◌≤◌, ◌<◌, ◌+◌, ◌-◌, ◌∙◌, ℕ, ℤ, zero, suc, Bool, true, false, cond, ltb, List, [], ◌∷◌, ◌++◌, length, take, map, Option, Some, None, IfSome, refl, sym, ap, subst, arith, append_assoc, length-append, add-zero, inl, inr, ◌⊎◌}
+use Rattle.std.proofs.Common.{◌≡◌, ◌<◌, ◌+◌, ◌-◌, ◌∙◌, ℕ, ℤ, suc, true, false, cond, ltb, List, [], ◌∷◌, ◌++◌, length, take, Option, Some, None, IfSome, refl, sym, ap, subst, arith, append_assoc, length-append, add-zero, inl, inr, ◌⊎◌}
 use Rattle.std.proofs.lemmas.Bool.{cases_Bool, ltb-true, ltb-false}
 use Rattle.std.proofs.Math.Seq.{take-nil}
 use Rattle.std.proofs.lemmas.List.{append-nil}
@@ -8,7 +8,7 @@ use Rattle.std.specs.Option.{option_to_list}
 use Rattle.line_form.specs.Lines.{TextLine}
 use Rattle.series_tables.specs.Plan.{PlanShape}
 use Rattle.series_tables.specs.Fits.{HasRoom, FitsPlan}
-use Rattle.series_tables.specs.LastValue.{last_from, last_value, speaks_of}
+use Rattle.series_tables.specs.LastValue.{last_from, speaks_of}
 use Rattle.series_tables.specs.Cells.{Rows, cell}
 use Rattle.series_tables.specs.declared.input.Input.{Input}
 use Rattle.series_tables.specs.declared.input.Kind.{Kind}

@@ -1,7 +1,7 @@
-use Rattle.std.proofs.Common.{◌≡◌, ap, sym, subst, inl, inr, rules}
+use Rattle.std.proofs.Common.{ap, sym, subst, inl, inr, rules}
 use Rattle.qna_edges.specs.declared.status.Status.{Status}
 use Rattle.qna_parts.specs.Trace.{Trace, IsReadWhole}
-use Rattle.qna_parts.specs.Command.{plan_limit, IsCommandEnd, StopsAtPlan}
+use Rattle.qna_parts.specs.Command.{plan_limit, StopsAtPlan}
 use Rattle.qna_parts.proofs.Commands.{stops_unread, spelled_by, later_trace, ends_from, only_command}
 use Rattle.qna_parts.proofs.command.carry_out.Goals as goal
 

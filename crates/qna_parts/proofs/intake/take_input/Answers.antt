@@ -1,4 +1,4 @@
-use Rattle.std.proofs.Common.{◌≡◌, ◌≤◌, ◌+◌, ◌++◌, take, arith, refl, rules, inl}
+use Rattle.std.proofs.Common.{◌≡◌, ◌≤◌, ◌+◌, ◌++◌, take, arith, refl, rules}
 use Rattle.qna_parts.specs.Intake.{most_bytes}
 use Rattle.qna_parts.specs.declared.intake.Untaken.TheVariants as untaken
 use Rattle.qna_edges.proofs.Stock.{faults_given, name_given}

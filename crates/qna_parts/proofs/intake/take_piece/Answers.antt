@@ -1,6 +1,6 @@
-use Rattle.std.proofs.Common.{◌≡◌, ◌++◌, List, ℕ}
-use Rattle.line_form.specs.Lines.{ended_lines, IsCutOf}
-use Rattle.qna_parts.specs.Intake.{refusal_lines, accepted_after, ended_refusals_text}
+use Rattle.std.proofs.Common.{◌++◌}
+use Rattle.line_form.specs.Lines.{ended_lines}
+use Rattle.qna_parts.specs.Intake.{ended_refusals_text}
 use Rattle.qna_edges.proofs.Paper.{grown_after}
 use Rattle.qna_parts.proofs.Success.{on_ok, on_ok-3, on_err}
 use Rattle.qna_parts.proofs.Stages.{stopped_after, breaks_after, piece_taken, piece_reported}

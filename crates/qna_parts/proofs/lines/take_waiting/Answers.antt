@@ -1,5 +1,4 @@
-use Rattle.std.proofs.Common.{◌≡◌, ◌∙◌, ℕ, List, [], ◌∷◌, ◌++◌, ap, sym, append_assoc}
-use Rattle.std.specs.Option.{option_to_list}
+use Rattle.std.proofs.Common.{◌≡◌, ◌∙◌, List, [], ◌∷◌, ◌++◌, ap, sym, append_assoc}
 use Rattle.line_form.specs.Lines.{TextLine, line_view, IsCutOf}
 use Rattle.series_tables.specs.Cells.{cell}
 use Rattle.input_rules.specs.Accepted.{taken}
