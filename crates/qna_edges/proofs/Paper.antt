@@ -44,6 +44,7 @@ refused_within Failed old mid new text done first within failed wants =
       cut = record { part = (done, within, end.same ∙ ap (λ (p : Paper). record p { faults = new.faults }) first ∙ ap (λ (n : ℕ). record (grown old (take done text)) { faults = new.faults; wants = n }) (sym other)); faults = omega (arith, end.later, counted); wants = omega (arith, other) };
       failed = λ is. rose;
       memory = λ is. absurd (let never = is in cc);
+      stands = λ no. absurd (no refl);
     }
 refused_within Memory old mid new text done first within failed wants =
     let end = wants refl in
@@ -55,6 +56,7 @@ refused_within Memory old mid new text done first within failed wants =
       cut = record { part = (done, within, end.same ∙ ap (λ (p : Paper). record p { wants = new.wants }) first ∙ ap (λ (n : ℕ). record (grown old (take done text)) { faults = n; wants = new.wants }) (sym other)); faults = omega (arith, other); wants = omega (arith, end.later, counted) };
       failed = λ is. absurd (let never = is in cc);
       memory = λ is. rose;
+      stands = λ no. other;
     }
 
 -- all of a text was written
@@ -64,6 +66,7 @@ whole_written value old new text done first within all = record {
   cut = tt;
   failed = λ is. absurd (let never = is in cc);
   memory = λ is. absurd (let never = is in cc);
+  stands = λ no. ap (λ (p : Paper). p.faults) first;
 }
 
 -- whatever was answered, a text was written whole, or one of the counts rose
@@ -103,6 +106,7 @@ prints_both (Ok value) old mid new text more first then = record {
   cut = tt;
   failed = λ is. absurd (let never = is in cc);
   memory = λ is. absurd (let never = is in cc);
+  stands = λ no. ap (λ (p : Paper). p.faults) then.ok ∙ ap (λ (p : Paper). p.faults) first;
 }
 prints_both (Err refused) old mid new text more first then =
     let counted : mid.faults ≡ old.faults = ap (λ (p : Paper). p.faults) first in
@@ -112,6 +116,7 @@ prints_both (Err refused) old mid new text more first then =
       cut = broken_second old mid new text more first then.cut;
       failed = λ is. rw counted at then.failed is;
       memory = λ is. rw other at then.memory is;
+      stands = λ no. then.stands no ∙ counted;
     }
 
 pub prints_first : {T U : Type 0} (refused : Refused) (old new : Paper) (text more : List ℕ) → Prints {T = T} old new text (Err refused) → Prints {T = U} old new (text ++ more) (Err refused)
@@ -120,12 +125,14 @@ prints_first Failed old new text more then = record {
   cut = broken_first old new text more then.cut;
   failed = λ is. then.failed refl;
   memory = λ is. absurd (let never = is in cc);
+  stands = λ no. absurd (no refl);
 }
 prints_first Memory old new text more then = record {
   ok = tt;
   cut = broken_first old new text more then.cut;
   failed = λ is. absurd (let never = is in cc);
   memory = λ is. then.memory refl;
+  stands = λ no. then.stands (λ is. let never = is in cc);
 }
 
 pub ruleset printed = (prints_both, prints_first, written_or_refused)

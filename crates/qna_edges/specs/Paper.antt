@@ -40,12 +40,14 @@ pub record BreaksOff (old new : Paper) (text : List ℕ) : Type 0 where
   pub faults : old.faults ≤ new.faults
   pub wants : old.wants ≤ new.wants
 
--- a text was to be written: all of it was added, and no count rose; or it was broken off, and the refusal's count rose
+-- a text was to be written: all of it was added, and no count rose; or it was broken off, and the refusal's count rose.
+-- Unless the device failed, the count of its faults stands
 pub record Prints {T : Type 0} (old new : Paper) (text : List ℕ) (result : Result T Refused) : Type 0 where
   pub ok : OnOk result (new ≡ grown old text)
   pub cut : OnErr result (BreaksOff old new text)
   pub failed : IsErrOf result Failed → Rose old.faults new.faults
   pub memory : IsErrOf result Memory → Rose old.wants new.wants
+  pub stands : ¬ IsErrOf result Failed → new.faults ≡ old.faults
 
 -- the same where the answer isn't told: all of the text was added, and no count rose; or it was broken off, and one did
 abbrev pub Writes : Paper → Paper → List ℕ → Type 0

@@ -1,6 +1,8 @@
-// Files and standard output, by std. What the system does with them no clause can say, so nothing here tells its bytes.
+// Files and standard output, by std. What the system does with them no clause can say, so nothing here tells its bytes;
+// but whatever a file gives or takes is what the source gave and the sink took.
 ghost use Rattle.std.specs.Prelude.{◌≡◌, ◌<◌, ◌≤◌, ℕ, List, IsTrue, length, false, None, IfOk, OnOk, OnErr, IsErrOf};
 ghost use Rattle.std.specs.Io.{ReadsAtMost};
+ghost use Rattle.std.specs.Io.KnownBytes.{ReadConsumes, WriteAppends};
 ghost use Rattle.qna_edges.specs.Count.{capped};
 ghost use Rattle.qna_edges.specs.Tally.{counts_of, has_room};
 ghost use Rattle.qna_edges.specs.Untold.{untold, no_shelf};
@@ -9,14 +11,17 @@ use crate::tally::{Kind, Tally};
 use crate::{Cabinet, Failed, Refused, Sink, Source};
 use std::alloc::Global;
 use std::fs;
-use std::io::{Read, Stdout, Write};
+use std::io::{Read, Write};
 use std::rt::Files;
 
-// One write to a device. An error is a fault, and so is a device that takes nothing.
+// One write to a device, which takes the first bytes of the piece and no others. An error is a fault, and so is a device
+// that takes nothing.
+#[tactic(auto, using(crate::proofs::Device::keeps_all))]
 fn write_counted<W: Write>(device: &mut W, bytes: &[u8], faults: &mut u64) -> Result<usize, Refused>
     requires { 0 < length bytes.now }
     ensures some { IfOk result (λ n. 0 < n) }
     ensures bound { IfOk result (λ n. n ≤ length bytes.now) }
+    ensures bytes { WriteAppends (W.contents device.old) (W.contents device.new) result bytes.now }
     ensures later { faults.old ≤ faults.new }
     ensures well { OnOk result (faults.new ≡ faults.old) }
     ensures fault { OnErr result (faults.new ≡ capped faults.old 1) }
@@ -44,7 +49,16 @@ impl<F: Read + Send + Drop> Source for FileSource<F> {
 
     ghost stock = { λ s. record { left = None; faults = s.faults; name = string_bytes s.name } };
 
-    fn read(&mut self, buf: &mut [u8]) -> Result<usize, Failed> {
+    /// It gives what the file gives, in one read.
+    fn read(&mut self, buf: &mut [u8]) -> Result<usize, Failed>
+        requires { 0 < length buf.old }
+        ensures bound { ReadsAtMost result buf.new }
+        ensures well { OnOk result (self.new.faults ≡ self.old.faults) }
+        ensures fault { OnErr result (self.new.faults ≡ capped self.old.faults 1) }
+        ensures same_name { self.new.name ≡ self.old.name }
+        ensures file { ReadConsumes (F.remaining self.old.file) (F.remaining self.new.file)
+            result buf.new }
+    {
         match self.file.read(buf) {
             Ok(count) => Ok(count),
             Err(_) => {
@@ -73,7 +87,7 @@ impl<F: Write + Send + Drop> Sink for FileSink<F> {
       name = string_bytes k.name;
     } };
 
-    /// It never answers `Memory`.
+    /// The file takes what is answered, in one write. It never answers `Memory`.
     fn write(&mut self, bytes: &[u8]) -> Result<usize, Refused>
         requires { 0 < length bytes.now }
         ensures some { IfOk result (λ n. 0 < n) }
@@ -83,33 +97,35 @@ impl<F: Write + Send + Drop> Sink for FileSink<F> {
             self.new.faults ≡ capped self.old.faults 1 }
         ensures same_name { self.new.name ≡ self.old.name }
         ensures memory { IsErrOf result Refused.Memory → ⊥ }
+        ensures file { WriteAppends (F.contents self.old.file) (F.contents self.new.file)
+            result bytes.now }
     {
         write_counted(&mut self.file, bytes, &mut self.faults)
     }
 }
 
-/// Standard output. Each error of the system counts as a fault.
+/// Standard output, or another writer of the program's own. Each error of the system counts as a fault.
 #[derive(Drop)]
-pub struct StdoutSink {
-    out: Stdout,
+pub struct StdoutSink<W: Write + Send + Drop> {
+    out: W,
     faults: u64,
 }
 
-impl StdoutSink {
+impl<W: Write + Send + Drop> StdoutSink<W> {
     /// Standard output as a sink, with an empty name.
-    pub fn new(out: Stdout) -> StdoutSink
-        ensures { (⟦<StdoutSink as Sink>⟧.paper result).faults ≡ 0 }
+    pub fn new(out: W) -> StdoutSink<W>
+        ensures { (⟦<StdoutSink<W> as Sink>⟧.paper result).faults ≡ 0 }
     {
         StdoutSink { out, faults: 0 }
     }
 }
 
-impl Sink for StdoutSink {
+impl<W: Write + Send + Drop> Sink for StdoutSink<W> {
     ghost use Rattle.std.specs.Prelude.{[]};
 
     ghost paper = { λ k. record { held = None; faults = k.faults; wants = 0; name = [] } };
 
-    /// It never answers `Memory`.
+    /// The writer takes what is answered, in one write. It never answers `Memory`.
     fn write(&mut self, bytes: &[u8]) -> Result<usize, Refused>
         requires { 0 < length bytes.now }
         ensures some { IfOk result (λ n. 0 < n) }
@@ -118,6 +134,8 @@ impl Sink for StdoutSink {
         ensures failed { IsErrOf result Refused.Failed →
             self.new.faults ≡ capped self.old.faults 1 }
         ensures memory { IsErrOf result Refused.Memory → ⊥ }
+        ensures writer { WriteAppends (W.contents self.old.out) (W.contents self.new.out)
+            result bytes.now }
     {
         write_counted(&mut self.out, bytes, &mut self.faults)
     }
