@@ -4,10 +4,11 @@ use Rattle.qna_edges.specs.declared.status.Status.{Status}
 use Rattle.qna_edges.specs.declared.status.Status.TheVariants.{Done, Memory, Usage, PlanFault, OpenFault, ReadFault, WriteFault, CheckNo, TooMuch}
 use Rattle.qna_edges.specs.Paper.{Paper}
 use Rattle.qna_edges.specs.Shelves.{Shelves}
+use Rattle.qna_parts.specs.Trace.{Passes}
 use Rattle.qna_cli.specs.CheckEnd.{certificate_limit, IsCheckEnd, CheckCompletes}
 
-too_long : (file : Option (List ℕ)) (text : List ℕ) (left : ℕ) → file ≡ Some text → length text ≤ certificate_limit → IfSome file (λ text. certificate_limit + left < length text) → ⊥
-too_long file text left e few many = let more : certificate_limit + left < length text = rw e at many in omega arith
+too_long : (file : Option (List ℕ)) (text : List ℕ) (left : ℕ) → file ≡ Some text → length text ≤ certificate_limit → IfSome file (λ text. Passes certificate_limit 8192 (length text) left) → ⊥
+too_long file text left e few many = let more : Passes certificate_limit 8192 (length text) left = rw e at many in let beyond = more.0 in omega (arith, beyond)
 
 -- where no count rose and the certificate is within the limit, an end of `check` is at a verdict or for want of memory
 pub check_completes : (old new : Shelves) (before after : Paper) (name : List ℕ) (status : Status) → IsCheckEnd old new before after name status → CheckCompletes old new before after name status
@@ -16,7 +17,7 @@ check_completes old new before after name CheckNo end text tells at few opened r
 check_completes old new before after name Memory end text tells at few opened read told = inr (inr refl)
 check_completes old new before after name Usage end text tells at few opened read told = absurd (let no = end.ends in cc)
 check_completes old new before after name PlanFault end text tells at few opened read told = absurd (let no = end.ends in cc)
-check_completes old new before after name OpenFault end text tells at few opened read told = absurd (opened (end.unread.unopened refl).0)
+check_completes old new before after name OpenFault end text tells at few opened read told = absurd (opened (end.unread.unopened refl).0.0)
 check_completes old new before after name ReadFault end text tells at few opened read told = absurd (read (end.unread.unread refl).0)
 check_completes old new before after name WriteFault end text tells at few opened read told = absurd (told (end.cut_yes refl).0)
 check_completes old new before after name TooMuch end text tells at few opened read told = absurd (too_long (old.under name).file text (new.under name).rest at few (end.unread.passed refl tells))

@@ -7,7 +7,7 @@ use Rattle.qna_edges.specs.declared.status.Status.{Status}
 use Rattle.qna_edges.specs.declared.status.Status.TheVariants.{Done, Memory, OpenFault, ReadFault, WriteFault}
 use Rattle.qna_edges.specs.declared.status.Status.TheVariants.{CheckNo, TooMuch}
 use Rattle.dual_cert.specs.declared.verdict.Verdict.TheVariants.{Yes}
-use Rattle.qna_parts.specs.Trace.{trace_of, IsReadWhole, EndsUnread}
+use Rattle.qna_parts.specs.Trace.{trace_of, IsReadWhole, IsUnfailed, EndsUnread}
 use Rattle.cert_read.specs.Found.{found, CertifiesItsGap}
 use Rattle.qna_cli.specs.Check.{verdict_text}
 
@@ -43,9 +43,11 @@ pub record IsCheckEnd (old new : Shelves) (before after : Paper) (name : List �
   pub cut_yes : status ≡ WriteFault → Rose before.faults after.faults × BreaksOff before after (codes "yes\n")
   -- at no: something else is found, and its line is reported
   pub no : status ≡ CheckNo → OnFile old name (λ text. (found text ≢ Ok Yes) × Writes before after (verdict_text text))
-  -- for want of memory: nothing is written, or yes is found, and its line is broken off since the report wanted memory
+  -- for want of memory nothing failed, and nothing is written; or yes is found, and its line is broken off since the
+  -- report wanted memory
   pub memory : status ≡ Memory → (after ≡ before) ⊎ (Rose before.wants after.wants
       × BreaksOff before after (codes "yes\n") × OnFile old name (λ text. found text ≡ Ok Yes))
+  pub unfailed : status ≡ Memory → IsUnfailed (trace_of old new name) × (after.faults ≡ before.faults)
   -- at a verdict the text was read to its end, within the limit; before one, why it wasn't is reported
   pub read : ends_at_verdict status ≡ true → IsReadWhole certificate_limit (trace_of old new name)
   pub unread : EndsUnread certificate_limit (trace_of old new name) before after status

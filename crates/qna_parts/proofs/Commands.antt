@@ -1,5 +1,5 @@
 -- How the parts of a command make up its end.
-use Rattle.std.proofs.Common.{◌≡◌, ◌≤◌, ◌<◌, ◌+◌, ℕ, Bool, true, List, length, Option, Some, None, refl, sym, ap, subst, ◌∙◌, inl, inr}
+use Rattle.std.proofs.Common.{◌≡◌, ◌≤◌, ◌+◌, ℕ, Bool, true, List, length, Option, Some, None, refl, sym, ap, subst, ◌∙◌, inl, inr}
 use Rattle.std.specs.Prelude.{◌≢◌, ◌⊎◌, IfSome, Ok}
 use Rattle.qna_edges.specs.Count.{Rose}
 use Rattle.qna_edges.specs.Paper.{Paper, Writes}
@@ -10,7 +10,7 @@ use Rattle.series_tables.specs.Plan.{PlanShape, plan_of}
 use Rattle.qna_parts.specs.Making.{Making}
 use Rattle.qna_parts.specs.Report.{ReportsFirst}
 use Rattle.qna_parts.specs.StatusLine.{status_of_unread, unread_line}
-use Rattle.qna_parts.specs.Trace.{Trace, trace_of, OnText, IsNotCreated, IsCreatedOnce, EndsUnread}
+use Rattle.qna_parts.specs.Trace.{Trace, trace_of, OnText, IsUnfailed, IsUnopened, Passes, IsNotCreated, IsCreatedOnce, EndsUnread}
 use Rattle.qna_parts.specs.CommandEnd.{InputUnopened, OutputUncreated, WantsMemory, EndsWithPlan}
 use Rattle.qna_parts.specs.Command.{plan_limit, ends_at_plan, OnlyBetween, OnlyCommand, StopsAtPlan}
 use Rattle.qna_parts.specs.declared.read.Unread.{Unread}
@@ -18,8 +18,16 @@ use Rattle.qna_parts.specs.declared.read.Unread.TheVariants as unread
 use Rattle.qna_parts.proofs.Reading.{report_begun}
 
 -- want of memory before anything was reported or created
-pub wants_before : (made : Making) (plan : PlanShape) (input output : Trace) (before after : Paper) → after ≡ before → output.new ≡ output.old → WantsMemory made plan input output before after
-wants_before made plan input output before after same untouched = record {
+pub wants_before : (made : Making) (plan : PlanShape) (input output : Trace) (before after : Paper) → after ≡ before → IsUnfailed input → output.new ≡ output.old → WantsMemory made plan input output before after
+wants_before made plan input output before after same unread untouched = record {
+  unread = unread;
+  unwritten = record {
+    opens = ap (λ (s : Shelf). s.opens) untouched;
+    creates = ap (λ (s : Shelf). s.creates) untouched;
+    reads = ap (λ (s : Shelf). s.reads) untouched;
+    writes = ap (λ (s : Shelf). s.writes) untouched;
+  };
+  unreported = ap (λ (p : Paper). p.faults) same;
   told = λ tells. subst (λ (p : Paper). IfSome input.old.file (λ text. ReportsFirst plan before p text)) (sym same) (report_begun plan input.old.file before);
   held = inl untouched;
 }
@@ -27,7 +35,7 @@ wants_before made plan input output before after same untouched = record {
 -- an end before the output was created
 pub ends_unopened : (made : Making) (plan : PlanShape) (input output : Trace) (before after : Paper) (end : Status) →
     (end ≡ status.OpenFault → InputUnopened input output before after ⊎ OutputUncreated input output before after) →
-    (end ≡ status.Memory → (after ≡ before) × (output.new ≡ output.old)) →
+    (end ≡ status.Memory → (after ≡ before) × IsUnfailed input × (output.new ≡ output.old)) →
     (end ≡ status.OpenFault) ⊎ (end ≡ status.Memory) → EndsWithPlan made plan input output before after end
 ends_unopened made plan input output before after status.OpenFault opened wants one = record {
   done = λ is. absurd (let never = is in cc);
@@ -44,7 +52,7 @@ ends_unopened made plan input output before after status.Memory opened wants one
   read_fault = λ is. absurd (let never = is in cc);
   too_much = λ is. absurd (let never = is in cc);
   write_fault = λ is. absurd (let never = is in cc);
-  memory = λ is. let early = wants refl in wants_before made plan input output before after early.0 early.1;
+  memory = λ is. let early = wants refl in wants_before made plan input output before after early.0 early.1 early.2;
   ends = refl;
 }
 ends_unopened made plan input output before after status.Done opened wants one = absurd (elim one [ inl is ↦ let never = is in cc | inr is ↦ let never = is in cc ])
@@ -57,10 +65,11 @@ ends_unopened made plan input output before after status.TooMuch opened wants on
 
 -- what is known of a file that wasn't read to its end, by why
 pub record Causes (why : Unread) (limit : ℕ) (file : Trace) (before after : Paper) : Type 0 where
-  pub unopened : why ≡ unread.Open → Rose file.old.opens file.new.opens
+  pub unopened : why ≡ unread.Open → IsUnopened file
   pub failed : why ≡ unread.Read → Rose file.old.reads file.new.reads
   pub within : why ≡ unread.Read → OnText file (λ text. length text ≤ limit + file.new.rest)
-  pub passed : why ≡ unread.TooMuch → OnText file (λ text. limit + file.new.rest < length text)
+  pub passed : why ≡ unread.TooMuch → OnText file (λ text. Passes limit 8192 (length text) file.new.rest)
+  pub unfailed : why ≡ unread.Memory → IsUnfailed file
   pub told : Writes before after (unread_line why file.name)
 
 -- so it ends
@@ -101,7 +110,7 @@ stops_unread why old new before after plan cause silent only = record {
   unread = ends_unread why plan_limit (trace_of old new plan) before after cause;
   refused = λ is. absurd (no_fault why is);
   read = λ is. absurd (no_fault why is);
-  memory = λ is. silent (wanting why is);
+  memory = λ is. (silent (wanting why is), cause.unfailed (wanting why is));
   ends = ending why;
   only = only;
 }

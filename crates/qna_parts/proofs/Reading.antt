@@ -16,6 +16,7 @@ use Rattle.qna_parts.specs.declared.intake.Untaken.{Untaken}
 use Rattle.qna_parts.specs.declared.intake.Untaken.TheVariants as untaken
 use Rattle.qna_parts.specs.Intake.{Stops, Breaks, IsTakenTo, refusal_lines, refusals_text, ended_refusals_text}
 use Rattle.qna_parts.specs.Report.{ReportsFirst}
+use Rattle.qna_parts.specs.Trace.{Passes}
 use Rattle.qna_parts.proofs.Streams.{lines_of-front}
 use Rattle.qna_parts.proofs.Stages.{nothing_reported, broken_within}
 
@@ -204,9 +205,12 @@ at_end_within plan all left new before now size limit lines rows count n buffer 
 pub below_limit : (new : Option (List ℕ)) (limit taken : ℕ) (text : List ℕ) → new ≡ Some (drop taken text) → taken ≤ limit → taken ≤ length text → IfSome new (λ rest. length text ≤ limit + length rest)
 below_limit new limit taken text is few within = subst (λ (o : Option (List ℕ)). IfSome o (λ rest. length text ≤ limit + length rest)) (sym is) (omega (arith, length-drop taken text, few, within))
 
--- more bytes than a limit, where so many are left
-pub past_limit : (new : Option (List ℕ)) (limit taken : ℕ) (text : List ℕ) → new ≡ Some (drop taken text) → limit < taken → taken ≤ length text → IfSome new (λ rest. limit + length rest < length text)
-past_limit new limit taken text is over within = subst (λ (o : Option (List ℕ)). IfSome o (λ rest. limit + length rest < length text)) (sym is) (omega (arith, length-drop taken text, over, within))
+-- more bytes than a limit, but no more than a piece beyond it, where so many are left
+pub past_limit : (new : Option (List ℕ)) (limit piece taken : ℕ) (text : List ℕ) → new ≡ Some (drop taken text) → limit < taken → taken ≤ limit + piece → taken ≤ length text →
+    IfSome new (λ rest. Passes limit piece (length text) (length rest))
+past_limit new limit piece taken text is over near within =
+    subst (λ (o : Option (List ℕ)). IfSome o (λ rest. Passes limit piece (length text) (length rest))) (sym is)
+    (omega (arith, length-drop taken text, over, within), omega (arith, length-drop taken text, near, within))
 
 -- equal places in a text
 pub to_place : (xs text : List ℕ) (n m : ℕ) → n ≡ m → xs ≡ take n text → xs ≡ take m text

@@ -10,7 +10,7 @@ use Rattle.series_tables.specs.Plan.{PlanShape, PlanRefusal, plan_of}
 use Rattle.qna_parts.specs.Intake.{most_bytes}
 use Rattle.qna_parts.specs.Making.{Making}
 use Rattle.qna_parts.specs.StatusLine.{plan_line}
-use Rattle.qna_parts.specs.Trace.{trace_of, OnText, IsReadWhole, IsNotCreated, IsCreatedOnce, EndsUnread}
+use Rattle.qna_parts.specs.Trace.{trace_of, OnText, IsReadWhole, IsUnfailed, IsNotCreated, IsCreatedOnce, EndsUnread}
 use Rattle.qna_parts.specs.CommandEnd.{EndsWithPlan}
 
 -- the most bytes of a plan
@@ -57,7 +57,7 @@ pub record StopsAtPlan (old new : Shelves) (before after : Paper) (plan : List �
   pub refused : status ≡ PlanFault → OnText (trace_of old new plan) (λ spelled.
       OnRefused (plan_of spelled) (λ refusal. Writes before after (plan_line refusal)))
   pub read : status ≡ PlanFault → IsReadWhole plan_limit (trace_of old new plan)
-  pub memory : status ≡ Memory → after ≡ before
+  pub memory : status ≡ Memory → (after ≡ before) × IsUnfailed (trace_of old new plan)
   pub ends : ends_at_plan status ≡ true
   pub only : OnlyRead old new plan
 

@@ -11,7 +11,7 @@ use Rattle.qna_parts.specs.Intake.{most_bytes, refusals_text, ended_refusals_tex
 use Rattle.qna_parts.specs.Making.{Making}
 use Rattle.qna_parts.specs.Report.{ReportsFirst, ReportsThen, WritesBoth}
 use Rattle.qna_parts.specs.StatusLine.{named_line}
-use Rattle.qna_parts.specs.Trace.{Trace, OnText, IsReadWhole, IsNotCreated, IsCreatedOnce, IsEmptied}
+use Rattle.qna_parts.specs.Trace.{Trace, OnText, IsReadWhole, IsUnfailed, IsUnopened, Passes, IsNotCreated, IsCreatedOnce, IsEmptied}
 
 -- a file holds a beginning of a text, but not all of it
 unfoldable pub HoldsPart : Option (List ℕ) → List ℕ → Type 0
@@ -25,10 +25,11 @@ pub record EndsWhole (made : Making) (plan : PlanShape) (input output : Trace) (
   pub read : IsReadWhole most_bytes input
   pub created : IsCreatedOnce output
   pub unfailed : output.new.writes ≡ output.old.writes
+  pub unreported : after.faults ≡ before.faults
 
--- the input can't be opened: its name is reported, and the output is as it was
+-- the input can't be opened: its name is reported, nothing was read, and the output is as it was
 pub record InputUnopened (input output : Trace) (before after : Paper) : Type 0 where
-  pub rose : Rose input.old.opens input.new.opens
+  pub unopened : IsUnopened input
   pub told : Writes before after (named_line (codes "open") input.name)
   pub untouched : output.new ≡ output.old
 
@@ -48,10 +49,10 @@ pub record InputUnread (plan : PlanShape) (input output : Trace) (before after :
   pub within : OnText input (λ text. length text ≤ most_bytes + input.new.rest)
   pub emptied : IsEmptied output
 
--- the input has more bytes than its limit: the output is empty, and of the report were to be written each refused line
+-- the input has more bytes than its limit, of which no more than a piece was read: the output is empty, and of the report were to be written each refused line
 -- that a line feed ends within the limit, and then the input's name
 pub record InputTooLong (plan : PlanShape) (input output : Trace) (before after : Paper) : Type 0 where
-  pub passed : OnText input (λ text. most_bytes + input.new.rest < length text)
+  pub passed : OnText input (λ text. Passes most_bytes 65536 (length text) input.new.rest)
   pub told : OnText input (λ text. WritesBoth before after
       (ended_refusals_text plan (take most_bytes text)) (named_line (codes "toomuch") input.name))
   pub emptied : IsEmptied output
@@ -74,9 +75,12 @@ pub record OutputUnwritten (made : Making) (plan : PlanShape) (input output : Tr
   pub read : IsReadWhole most_bytes input
   pub created : IsCreatedOnce output
 
--- memory is wanting: the report has the first refused lines, and the output is as it was, or was created once and holds
--- nothing, or a beginning of what is made of the accepted inputs, but not all
+-- memory is wanting, and nothing failed: the report has the first refused lines, and the output is as it was, or was
+-- created once and holds nothing, or a beginning of what is made of the accepted inputs, but not all
 pub record WantsMemory (made : Making) (plan : PlanShape) (input output : Trace) (before after : Paper) : Type 0 where
+  pub unread : IsUnfailed input
+  pub unwritten : IsUnfailed output
+  pub unreported : after.faults ≡ before.faults
   pub told : OnText input (λ text. ReportsFirst plan before after text)
   pub held : (output.new ≡ output.old) ⊎ (IsEmptied output
       ⊎ (IsCreatedOnce output × OnText input (λ text. HoldsPart output.new.file (made plan (accepted plan text)))))

@@ -1,7 +1,7 @@
 //! An input, taken line by line as its bytes come.
 
 ghost use Rattle.std.specs.Prelude.{◌≡◌, ◌≢◌, ◌<◌, ◌≤◌, ◌+◌, ◌-◌, ◌++◌, ◌⊎◌, [], Some, ℕ, List, length, take};
-ghost use Rattle.std.specs.Prelude.{IfOk, OnOk, OnErr, IfErr, IsErrOf};
+ghost use Rattle.std.specs.Prelude.{IfOk, IsOk, OnOk, OnErr, IfErr, IsErrOf};
 ghost use Rattle.qna_edges.specs.Count.{Rose};
 ghost use Rattle.qna_edges.specs.Paper.{Paper, grown, BreaksOff, Writes};
 ghost use Rattle.qna_edges.specs.Stock.{OnLeft, OnLeftAndRest, WasRead};
@@ -14,6 +14,7 @@ ghost use Rattle.qna_parts.specs.Intake.{Stops, Breaks, most_bytes, refusal_line
 ghost use Rattle.qna_parts.specs.Intake.{HasTaken, IsTakenTo, IsTakenWhole, IsReady, refusals_text};
 ghost use Rattle.qna_parts.specs.Intake.{ended_refusals_text};
 ghost use Rattle.qna_parts.specs.Report.{ReportsFirst};
+ghost use Rattle.qna_parts.specs.Trace.{Passes};
 ghost use Rattle.qna_parts.specs.Faults.{untaken_of};
 ghost use Rattle.qna_parts.specs.declared.intake.Untaken.TheVariants.{Memory as WantOfMemory};
 
@@ -108,7 +109,7 @@ pub fn take_input<S: Source, R: Sink>(
         Rose (S.stock source.old).faults (S.stock source.new).faults }
     ensures passed { IsErrOf result Untaken.TooMuch →
         OnLeftAndRest (S.stock source.old) (S.stock source.new) (λ text rest.
-        most_bytes + length rest < length text) }
+        Passes most_bytes 65536 (length text) (length rest)) }
     ensures passed_reported { IsErrOf result Untaken.TooMuch → OnLeft (S.stock source.old) (λ text.
         Writes (R.paper report.old) (R.paper report.new)
         (ended_refusals_text plan.now (take most_bytes text))) }
@@ -121,6 +122,10 @@ pub fn take_input<S: Source, R: Sink>(
         length text ≤ most_bytes + length rest) }
     ensures memory { IsErrOf result Untaken.Memory → OnLeft (S.stock source.old) (λ text.
         ReportsFirst plan.now (R.paper report.old) (R.paper report.new) text) }
+    ensures unread { IsErrOf result Untaken.Memory →
+        (S.stock source.new).faults ≡ (S.stock source.old).faults }
+    ensures unfailed { IsOk result ⊎ IsErrOf result Untaken.Memory →
+        (R.paper report.new).faults ≡ (R.paper report.old).faults }
     ensures only { WasRead (S.stock source.old) (S.stock source.new) }
 {
     let mut intake = begin(alloc, plan)?;
@@ -214,6 +219,8 @@ fn take_piece<R: Sink>(
     ensures others { IfErr result (λ untaken.
         (untaken ≢ Untaken.Read) × (untaken ≢ Untaken.TooMuch)) }
     ensures later { (R.paper report.old).faults ≤ (R.paper report.new).faults }
+    ensures stands { ¬ IsErrOf result Untaken.Report →
+        (R.paper report.new).faults ≡ (R.paper report.old).faults }
 {
     intake.lines.feed(piece)?;
     take_lines(alloc, plan, intake, report)
@@ -253,6 +260,8 @@ fn take_end<R: Sink>(
     ensures others { IfErr result (λ untaken.
         (untaken ≢ Untaken.Read) × (untaken ≢ Untaken.TooMuch)) }
     ensures later { (R.paper report.old).faults ≤ (R.paper report.new).faults }
+    ensures stands { ¬ IsErrOf result Untaken.Report →
+        (R.paper report.new).faults ≡ (R.paper report.old).faults }
 {
     intake.lines.finish()?;
     take_lines(alloc, plan, intake, report)
@@ -296,6 +305,8 @@ fn take_lines<R: Sink>(
     ensures others { IfErr result (λ untaken.
         (untaken ≢ Untaken.Read) × (untaken ≢ Untaken.TooMuch)) }
     ensures later { (R.paper report.old).faults ≤ (R.paper report.new).faults }
+    ensures stands { ¬ IsErrOf result Untaken.Report →
+        (R.paper report.new).faults ≡ (R.paper report.old).faults }
 {
     intake.accepted = take_waiting(
         alloc,

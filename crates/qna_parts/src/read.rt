@@ -3,8 +3,8 @@
 ghost use Rattle.std.specs.Prelude.{◌≡◌, ◌≢◌, ◌<◌, ◌≤◌, ◌+◌, Some, [], length, IfOk, OnOk, IfErr, IsErrOf};
 ghost use Rattle.qna_edges.specs.Count.{Rose};
 ghost use Rattle.qna_edges.specs.Stock.{OnLeft, OnLeftAndRest, WasRead};
-ghost use Rattle.qna_edges.specs.Shelves.{OnFile, OpenRose, ReadRose, OnlyRead};
-ghost use Rattle.qna_parts.specs.Trace.{trace_of, IsReadWhole};
+ghost use Rattle.qna_edges.specs.Shelves.{OnFile, ReadRose, OnlyRead};
+ghost use Rattle.qna_parts.specs.Trace.{trace_of, IsReadWhole, IsUnfailed, IsUnopened, Passes};
 
 use qna_edges::{Cabinet, Failed, Refused, Source};
 use std::alloc::Global;
@@ -28,11 +28,12 @@ pub fn read_all<S: Source>(alloc: Global, source: &mut S, limit: usize) -> Resul
     ensures text { IfOk result (λ bytes. OnLeft (S.stock source.old) (λ text. bytes.items ≡ text)) }
     ensures ended { OnOk result (OnLeft (S.stock source.old) (λ text.
         (S.stock source.new).left ≡ Some [])) }
-    ensures well { OnOk result ((S.stock source.new).faults ≡ (S.stock source.old).faults) }
+    ensures well { ¬ IsErrOf result Unread.Read →
+        (S.stock source.new).faults ≡ (S.stock source.old).faults }
     ensures within { IfOk result (λ bytes. length bytes.items ≤ limit) }
     ensures passed { IsErrOf result Unread.TooMuch →
         OnLeftAndRest (S.stock source.old) (S.stock source.new) (λ text rest.
-        limit + length rest < length text) }
+        Passes limit 8192 (length text) (length rest)) }
     ensures read_within { IsErrOf result Unread.Read →
         OnLeftAndRest (S.stock source.old) (S.stock source.new) (λ text rest.
         length text ≤ limit + length rest) }
@@ -74,9 +75,11 @@ pub fn read_file<C: Cabinet>(
     ensures within { IfOk result (λ bytes. length bytes.items ≤ limit) }
     ensures passed { IsErrOf result Unread.TooMuch →
         OnFile (C.shelves cabinet.old) name.now (λ text.
-        limit + ((C.shelves cabinet.new).under name.now).rest < length text) }
-    ensures opened { IsErrOf result Unread.Open →
-        OpenRose (C.shelves cabinet.old) (C.shelves cabinet.new) name.now }
+        Passes limit 8192 (length text) ((C.shelves cabinet.new).under name.now).rest) }
+    ensures opened { IsErrOf result Unread.Open → IsUnopened
+        (trace_of (C.shelves cabinet.old) (C.shelves cabinet.new) name.now) }
+    ensures memory { IsErrOf result Unread.Memory → IsUnfailed
+        (trace_of (C.shelves cabinet.old) (C.shelves cabinet.new) name.now) }
     ensures read { IsErrOf result Unread.Read →
         ReadRose (C.shelves cabinet.old) (C.shelves cabinet.new) name.now }
     ensures read_within { IsErrOf result Unread.Read →

@@ -9,6 +9,7 @@ ghost use Rattle.qna_parts.specs.Intake.{most_bytes, refusals_text, ended_refusa
 ghost use Rattle.qna_parts.specs.StatusLine.{named_line};
 ghost use Rattle.qna_parts.specs.Report.{ReportsFirst, ReportsThen, WritesBoth};
 ghost use Rattle.qna_parts.specs.CommandEnd.{ends_a_transfer};
+ghost use Rattle.qna_parts.specs.Trace.{Passes};
 ghost use Rattle.qna_parts.specs.Transfer.{transfer_of, ReportBreaks, OutputBreaks};
 
 use crate::intake::take_input;
@@ -28,6 +29,8 @@ fn deliver<K: Sink, R: Sink>(text: &[u8], sink: &mut K, name: &str, report: &mut
         BreaksOff (K.paper sink.old) (K.paper sink.new) text.now }
     ensures failed { result ≡ Status.WriteFault →
         Rose (K.paper sink.old).faults (K.paper sink.new).faults }
+    ensures stands { (result ≡ Status.Done) ⊎ (result ≡ Status.Memory) →
+        (K.paper sink.new).faults ≡ (K.paper sink.old).faults }
     ensures told { result ≡ Status.WriteFault →
         Writes (R.paper report.old) (R.paper report.new) (named_line (codes "write") name.now) }
     ensures silent { (result ≡ Status.Done) ⊎ (result ≡ Status.Memory) →
@@ -65,14 +68,18 @@ pub(crate) fn transfer<M: Make, S: Source, K: Sink, R: Sink>(
         R.paper report.new ≡ grown (R.paper report.old) (refusals_text plan.now text)) }
     ensures ended { result ≡ Status.Done →
         IsTakenWhole (S.stock source.old) (S.stock source.new) }
-    ensures unfailed { result ≡ Status.Done →
+    ensures unread { result ≡ Status.Memory →
+        (S.stock source.new).faults ≡ (S.stock source.old).faults }
+    ensures unwritten { (result ≡ Status.Done) ⊎ (result ≡ Status.Memory) →
         (K.paper sink.new).faults ≡ (K.paper sink.old).faults }
+    ensures unreported { (result ≡ Status.Done) ⊎ (result ≡ Status.Memory) →
+        (R.paper report.new).faults ≡ (R.paper report.old).faults }
     ensures memory { result ≡ Status.Memory → OnLeft (S.stock source.old) (λ text.
         ReportsFirst plan.now (R.paper report.old) (R.paper report.new) text) }
     ensures memory_part { result ≡ Status.Memory → (K.paper sink.new ≡ K.paper sink.old)
         ⊎ OnLeft (S.stock source.old) (λ text. BreaksOff (K.paper sink.old) (K.paper sink.new)
         (M.text maker.now plan.now (accepted plan.now text))) }
-    ensures unwritten { (result ≡ Status.ReadFault) ⊎ (result ≡ Status.TooMuch) →
+    ensures untouched { (result ≡ Status.ReadFault) ⊎ (result ≡ Status.TooMuch) →
         K.paper sink.new ≡ K.paper sink.old }
     ensures read_failed { result ≡ Status.ReadFault →
         Rose (S.stock source.old).faults (S.stock source.new).faults }
@@ -86,7 +93,7 @@ pub(crate) fn transfer<M: Make, S: Source, K: Sink, R: Sink>(
         (named_line (codes "read") input.now)) }
     ensures passed { result ≡ Status.TooMuch →
         OnLeftAndRest (S.stock source.old) (S.stock source.new) (λ text rest.
-        most_bytes + length rest < length text) }
+        Passes most_bytes 65536 (length text) (length rest)) }
     ensures passed_told { result ≡ Status.TooMuch → OnLeft (S.stock source.old) (λ text.
         WritesBoth (R.paper report.old) (R.paper report.new)
         (ended_refusals_text plan.now (take most_bytes text))

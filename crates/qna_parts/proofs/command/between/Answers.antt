@@ -7,13 +7,13 @@ use Rattle.qna_parts.proofs.command.between.Goals as goal
 
 pub returns-in-Err-clause-ends : goal.returns-in-Err-clause-ends
 returns-in-Err-clause-ends g c =
-    ends_unopened _ _ _ _ _ _ _ (λ is. inl (record { rose = search rules; told = c.tell_unopened.ensures.told is; untouched = search rules }))
-    (λ is. (ap g.R.Sink.paper (c.tell_unopened.ensures.memory is), search rules)) c.tell_unopened.ensures.ends
+    ends_unopened _ _ _ _ _ _ _ (λ is. inl (record { unopened = search rules; told = c.tell_unopened.ensures.told is; untouched = search rules }))
+    (λ is. (ap g.R.Sink.paper (c.tell_unopened.ensures.memory is), search rules, search rules)) c.tell_unopened.ensures.ends
 
 pub returns-in-Err-create-clause-ends : goal.returns-in-Err-create-clause-ends
 returns-in-Err-create-clause-ends g c =
     ends_unopened _ _ _ _ _ _ _ (λ is. inr (record { rose = search rules; told = search rules; uncreated = search rules; unread = search rules }))
-    (λ is. (search rules, search rules)) (search rules)
+    (λ is. (search rules, search (rules, capped_none), search rules)) (search rules)
 
 pub returns-clause-ends : goal.returns-clause-ends
 returns-clause-ends g c =
@@ -29,10 +29,11 @@ returns-clause-ends g c =
         };
         created = search rules;
         unfailed = search (rules, capped_none);
+        unreported = search rules;
       };
       open_fault = λ is. search rules;
-      read_fault = λ is. record { rose = search rules; told = λ tells. search rules; within = λ tells. search rules; emptied = record { created = search rules; empty = λ tells. held_none _ _ _ (c.in-Ok-create.ensures.told (search rules)) (search rules) (c.transfer-status.ensures.unwritten (inl is)) } };
-      too_much = λ is. record { passed = λ tells. search rules; told = λ tells. search rules; emptied = record { created = search rules; empty = λ tells. held_none _ _ _ (c.in-Ok-create.ensures.told (search rules)) (search rules) (c.transfer-status.ensures.unwritten (inr is)) } };
+      read_fault = λ is. record { rose = search rules; told = λ tells. search rules; within = λ tells. search rules; emptied = record { created = search rules; empty = λ tells. held_none _ _ _ (c.in-Ok-create.ensures.told (search rules)) (search rules) (c.transfer-status.ensures.untouched (inl is)) } };
+      too_much = λ is. record { passed = λ tells. search rules; told = λ tells. search rules; emptied = record { created = search rules; empty = λ tells. held_none _ _ _ (c.in-Ok-create.ensures.told (search rules)) (search rules) (c.transfer-status.ensures.untouched (inr is)) } };
       write_fault = λ is. elim (c.transfer-status.ensures.write_fault is) [
         | inl breaks ↦ inl (record { rose = breaks.rose; told = λ tells. search rules; within = λ tells. search rules; emptied = record { created = search rules; empty = λ tells. held_none _ _ _ (c.in-Ok-create.ensures.told (search rules)) (search rules) breaks.unwritten } })
         | inr breaks ↦ inr (record {
@@ -44,6 +45,9 @@ returns-clause-ends g c =
         })
       ];
       memory = λ is. record {
+        unread = record { opens = search rules; creates = search rules; reads = search (rules, capped_none); writes = search rules };
+        unwritten = record { opens = search rules; creates = search rules; reads = search rules; writes = search (rules, capped_none) };
+        unreported = search rules;
         told = λ tells. search rules;
         held = elim (c.transfer-status.ensures.memory_part is) [
           | inl same ↦ inr (inl (record { created = search rules; empty = λ tells. held_none _ _ _ (c.in-Ok-create.ensures.told (search rules)) (search rules) same }))

@@ -13,6 +13,7 @@ returns-in-Err g c =
       failed = λ is. c.in-Err.ensures.read (cc);
       within = λ is. c.in-Err.ensures.read_within (cc);
       passed = λ is. c.in-Err.ensures.passed (cc);
+      unfailed = λ is. c.in-Err.ensures.memory (cc);
       told = c.tell_unread.ensures.told;
     }) (λ is. ap g.R.Sink.paper (c.tell_unread.ensures.memory is)) c.in-Err.ensures.only))
 

@@ -12,7 +12,7 @@ reading-init g c = (
   omega arith,
   read_begun c.args.plan.now _ _ c.in_ok-intake.intake.lines c.in_ok-intake.intake.tables c.in_ok-intake.intake.accepted c.in_ok-intake.ensures.taken,
   search rules,
-  omega arith,
+  refl,
   refl,
 )
 
@@ -52,7 +52,7 @@ returns-in-Ok-eq0-clause-ended g c = (
 pub returns-then-fits-count-clause-passed : goal.returns-then-fits-count-clause-passed
 returns-then-fits-count-clause-passed g c = λ is.
     with_piece c.args.plan.now _ _ _ _ _ c.reading.size c.in-Ok.count c.min-fits.result c.read.new.buf c.reading.intake.lines c.reading.intake.tables c.reading.intake.accepted _ c.reading.invariant.2 c.in-Ok.ensures.bytes.0 (search rules) (omega (arith, c.min-fits.ensures))
-    (λ text new within joined taken grown. past_limit _ most_bytes (c.reading.size + c.in-Ok.count) text new (omega (arith, c.min-fits.ensures, c.if-fits-count.true, c.reading.invariant.1)) within)
+    (λ text new within joined taken grown. past_limit _ most_bytes 65536 (c.reading.size + c.in-Ok.count) text new (omega (arith, c.min-fits.ensures, c.if-fits-count.true, c.reading.invariant.1)) (let few : c.in-Ok.count ≤ 65536 = search rules in omega (arith, few, c.reading.invariant.1)) within)
 
 pub returns-then-fits-count-clause-passed_reported : goal.returns-then-fits-count-clause-passed_reported
 returns-then-fits-count-clause-passed_reported g c = λ is.

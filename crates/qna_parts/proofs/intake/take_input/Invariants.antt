@@ -11,7 +11,7 @@ invariant-reading g l =
     × (l.size ≤ 1073741824)
     × IsReadTo l.plan (g.S.Source.stock l.fn.source).left (g.S.Source.stock l.source).left (g.R.Sink.paper l.fn.report) (g.R.Sink.paper l.report) l.size l.intake.lines l.intake.tables l.intake.accepted
     × WasRead (g.S.Source.stock l.fn.source) (g.S.Source.stock l.source)
-    × ((g.R.Sink.paper l.fn.report).faults ≤ (g.R.Sink.paper l.report).faults)
+    × ((g.R.Sink.paper l.report).faults ≡ (g.R.Sink.paper l.fn.report).faults)
     × ((g.S.Source.stock l.source).faults ≡ (g.S.Source.stock l.fn.source).faults)
 
 abbrev pub decreases-reading : goal.decreases-reading

@@ -1,4 +1,5 @@
-use Rattle.std.proofs.Common.{◌-◌, length, take, inl, inr, refl}
+use Rattle.std.proofs.Common.{◌≡◌, ◌∙◌, ◌-◌, length, take, inl, inr, refl, ap, rules}
+use Rattle.qna_edges.specs.Paper.{Paper}
 use Rattle.input_rules.specs.Accepted.{accepted}
 use Rattle.qna_parts.specs.Intake.{most_bytes, refusals_text, ended_refusals_text}
 use Rattle.qna_parts.proofs.Ends.{read_told, passed_told, made_of_input, grown_by, broken_by, output_told, first_of_all}
@@ -38,3 +39,11 @@ returns-in-Ok-make-clause-memory g c = λ is.
 
 pub returns-clause-memory : goal.returns-clause-memory
 returns-clause-memory g c = λ is. first_of_all c.args.plan.now _ _ _ _ c.in-Ok.ensures.reported refl
+
+pub returns-in-Ok-make-clause-unreported : goal.returns-in-Ok-make-clause-unreported
+returns-in-Ok-make-clause-unreported g c = λ is.
+    let taken : (g.R.Sink.paper c.take_input.new.report).faults ≡ (g.R.Sink.paper c.args.report.now).faults = c.in-Ok.ensures.unfailed (inl (search rules)) in
+    ap (λ (p : Paper). p.faults) (c.deliver.ensures.silent is) ∙ taken
+
+pub returns-clause-unreported : goal.returns-clause-unreported
+returns-clause-unreported g c = λ is. c.in-Ok.ensures.unfailed (inl (search rules))
