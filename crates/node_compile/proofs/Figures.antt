@@ -166,7 +166,7 @@ run_few : (value_at : ℕ → Option ℤ) (more from : ℕ) → length (run_from
 run_few value_at zero from = omega arith
 run_few value_at (suc more) from = by_value (value_at from) (run_few value_at more (suc from))
   where
-    by_value : (found : Option ℤ) → length (run_from value_at more (suc from)) ≤ more → length (elim found [ None ↦ [] | Some value ↦ value ∷ run_from value_at more (suc from) ]) ≤ suc more
+    by_value : (found : Option ℤ) → length (run_from value_at more (suc from)) ≤ more → length {A = ℤ} (elim found [ None ↦ [] | Some value ↦ value ∷ run_from value_at more (suc from) ]) ≤ suc more
     by_value None rest = omega arith
     by_value (Some value) rest = omega (arith, rest)
 
