@@ -1,24 +1,22 @@
 -- Why the figures of a compilation are in range: those of a leaf from what stands at it, and those of an inner item from the leaves under it.
-use Rattle.std.proofs.Common.{◌≡◌, ◌∙◌, ap, sym, refl, subst, inl, inr, ℕ, zero, suc, ◌+◌, ◌-◌, ◌*◌, ◌/◌, ◌^◌, ◌<◌, ◌≤◌, max, ℤ, pos, negsuc, ◌+ℤ◌, ◌*ℤ◌, ◌≤ℤ◌, unsigned_abs, Bool, true, false, cond, List, [], ◌∷◌, ◌++◌, length, map, drop, replicate, get_or, Option, Some, None, arith}
-use Rattle.std.specs.Prelude.{int_le, ◌&&◌, ◌==◌, slice_index, EachIndex}
+use Rattle.std.proofs.Common.{◌≡◌, ◌∙◌, ap, sym, refl, subst, inl, inr, ℕ, zero, suc, ◌+◌, ◌-◌, ◌*◌, ◌/◌, ◌^◌, ◌<◌, ◌≤◌, ℤ, pos, negsuc, ◌≤ℤ◌, unsigned_abs, Bool, true, false, cond, List, [], ◌∷◌, length, map, drop, get_or, Option, Some, None, arith}
+use Rattle.std.specs.Prelude.{◌&&◌, ◌==◌, slice_index, EachIndex}
 use Rattle.std.specs.List.{All, AllByRecursion, range_with_len, list_all, list_any}
 use Rattle.std.specs.Option.{option_map}
-use Rattle.std.proofs.Math.Nat.{mul_comm}
 use Rattle.std.proofs.lemmas.Bool.{cases_lt}
 use Rattle.std.proofs.lemmas.Int.{ints}
-use Rattle.std.proofs.lemmas.List.{get_or_past, get_or_default, length-map, length-replicate}
-use Rattle.std.proofs.lemmas.List.Elements.{All-map, All-replicate, All-drop, recursion_from_All}
+use Rattle.std.proofs.lemmas.List.{get_or_past, length-map, length-replicate}
+use Rattle.std.proofs.lemmas.List.Elements.{All-map, All-drop, recursion_from_All}
 use Rattle.std.proofs.lemmas.List.FromFn.{length-map-range_with_len}
 use Rattle.aggregate_tree.specs.Leaves.{added, cells_at, longest}
-use Rattle.aggregate_tree.proofs.Adding.{length-added}
 use Rattle.annual_overlap.specs.Years.{IsSizedCell}
 use Rattle.denton_parts.specs.Scale.{fits_scale, scale_of_years}
-use Rattle.denton_parts.specs.Year.{IsIndicator, IsMultiplier}
-use Rattle.denton_parts.specs.Years.{years_of, indicators_of, benchmarks_of}
+use Rattle.denton_parts.specs.Year.{IsMultiplier}
+use Rattle.denton_parts.specs.Years.{years_of, indicators_of}
 use Rattle.denton_parts.specs.declared.year.YearPart.{YearPart}
 use Rattle.denton_parts.proofs.Reach.{value_small}
 use Rattle.denton_parts.proofs.Scales.{scale_least}
-use Rattle.denton_solve.specs.Conditions.{AreMultipliers, IsScaled}
+use Rattle.denton_solve.specs.Conditions.{AreMultipliers}
 use Rattle.denton_solve.specs.Series.{series_of}
 use Rattle.denton_solve.specs.Sweeps.{sweep_of, iterated, no_multipliers, multipliers_of}
 use Rattle.denton_solve.proofs.Pairs.{zeros_small}
@@ -33,7 +31,7 @@ use Rattle.price_base.specs.Cells.{cell_at, combined, total, is_missing, is_no_b
 use Rattle.price_base.specs.Volumes.{volume_at, volumes_of}
 use Rattle.series_tables.specs.Cells.{cells_from}
 use Rattle.series_tables.specs.Fits.{FitsPlan}
-use Rattle.series_tables.specs.LastValue.{same_kind, speaks_of, run_from, run_of, last_from, last_value, least_of, most_of, quarters}
+use Rattle.series_tables.specs.LastValue.{same_kind, speaks_of, run_from, run_of, last_from, last_value, least_of, most_of}
 use Rattle.series_tables.specs.Plan.{PlanShape, is_leaf}
 use Rattle.series_tables.specs.Ranges.{IsPositiveInRange, IsBenchmarkOrNone}
 use Rattle.series_tables.specs.Tree.{leaves_under}
@@ -42,7 +40,7 @@ use Rattle.series_tables.specs.declared.input.Kind.{Kind}
 use Rattle.series_tables.specs.declared.input.Kind.TheVariants.{Indicator, Benchmark, Price}
 use Rattle.node_compile.specs.Items.{AreItemCells, IsKnownItem}
 use Rattle.node_compile.specs.Laws.{MeetsItsBenchmarks, IsWithinItsGap}
-use Rattle.node_compile.specs.Leaf.{benchmark_run, run_values, missing, table_of_years, leaf_table}
+use Rattle.node_compile.specs.Leaf.{benchmark_run, run_values, table_of_years, leaf_table}
 use Rattle.node_compile.specs.Release.{table_of_leaf, inner_table, values_of_leaves, volumes_of_leaves, item_table}
 use Rattle.node_compile.specs.Sizes.{AreInRange, AreItemsSized, AreLeavesSized}
 use Rattle.node_compile.specs.Table.{Table}

@@ -1,5 +1,5 @@
 -- The cells of a leaf are flows, whatever was sent, and adding up an item's children is adding up the leaves under it.
-use Rattle.std.proofs.Common.{◌≡◌, ◌∙◌, ap, sym, refl, subst, ℕ, zero, suc, ◌+◌, ◌-◌, ◌<◌, ◌≤◌, ℤ, pos, ◌*ℤ◌, Bool, true, false, cond, List, [], ◌∷◌, length, map, drop, replicate, get_or, Option, Some, None, arith}
+use Rattle.std.proofs.Common.{◌≡◌, ◌∙◌, ap, sym, refl, subst, ℕ, suc, ◌-◌, ◌<◌, ℤ, pos, ◌*ℤ◌, Bool, true, false, cond, List, [], ◌∷◌, length, map, drop, get_or, Option, Some, None, arith}
 use Rattle.std.specs.Prelude.{◌&&◌, int_le}
 use Rattle.std.specs.List.{All, list_any, range_with_len}
 use Rattle.std.proofs.lemmas.Simd.{map-map}
@@ -9,13 +9,13 @@ use Rattle.aggregate_tree.proofs.Adding.{sum_over_leaves}
 use Rattle.denton_parts.specs.declared.year.YearPart.{YearPart}
 use Rattle.price_base.specs.declared.Base.{Base}
 use Rattle.price_base.specs.declared.Cell.{Cell}
-use Rattle.price_base.specs.declared.Cell.TheVariants.{Missing, Value, NoBase, NoLink, Range}
+use Rattle.price_base.specs.declared.Cell.TheVariants.{Missing, Value, NoBase, Range}
 use Rattle.price_base.specs.declared.Sold.{Sold}
 use Rattle.price_base.specs.Cells.{IsFlow}
 use Rattle.price_base.specs.Volumes.{volume_of, volume_at, volumes_of, volume_within, is_small, base_at, base_start, sold_at}
 use Rattle.ratio_arith.specs.Division.{round_of}
 use Rattle.series_tables.proofs.Leaves.{of_children-map, children_have_leaves}
-use Rattle.series_tables.specs.Plan.{PlanShape, is_parent, is_leaf}
+use Rattle.series_tables.specs.Plan.{PlanShape, is_parent}
 use Rattle.series_tables.specs.Tree.{of_children, leaves_from, leaves_under}
 use Rattle.series_tables.specs.declared.input.Kind.{Kind}
 use Rattle.node_compile.specs.Leaf.{leaf_table, table_of_years}

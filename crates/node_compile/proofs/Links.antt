@@ -1,5 +1,5 @@
 -- Why a level is a number exactly where its year is linked to the reference year.
-use Rattle.std.proofs.Common.{◌≡◌, ◌∙◌, ap, sym, refl, subst, inl, inr, ℕ, zero, suc, ◌+◌, ◌-◌, ◌^◌, ◌<◌, ◌≤◌, ℤ, pos, ◌<ℤ◌, ◌+ℤ◌, ◌*ℤ◌, Bool, true, false, if◌then◌else◌, List, length, map, get_or, Some, None, arith, int_le, nat_lt}
+use Rattle.std.proofs.Common.{◌≡◌, ◌∙◌, ap, sym, refl, subst, inl, inr, ℕ, zero, suc, ◌+◌, ◌-◌, ◌^◌, ◌<◌, ◌≤◌, ℤ, pos, ◌<ℤ◌, ◌+ℤ◌, ◌*ℤ◌, Bool, true, false, if◌then◌else◌, List, length, map, arith, int_le, nat_lt}
 use Rattle.std.specs.Prelude.{◌≢◌, ◌↔◌, ◌&&◌, ◌||◌, IsSome}
 use Rattle.std.specs.List.{range_with_len}
 use Rattle.std.proofs.lemmas.Bool.{cases_lt}
@@ -15,7 +15,7 @@ use Rattle.annual_overlap.specs.declared.Point.{Point}
 use Rattle.annual_overlap.specs.declared.Point.TheVariants.{Known, Marked}
 use Rattle.annual_overlap.specs.declared.Ratio.{Ratio}
 use Rattle.annual_overlap.specs.declared.Ratio.TheVariants.{Of, Broken}
-use Rattle.annual_overlap.specs.Chain.{link_of, link_after, point_within, moved, step_forward, step_backward, reference_point, years_after, years_before, point_at, points_of, level_cell}
+use Rattle.annual_overlap.specs.Chain.{link_of, link_after, moved, step_forward, step_backward, reference_point, years_after, years_before, point_at, points_of, level_cell}
 use Rattle.annual_overlap.specs.Table.{chain_of}
 use Rattle.annual_overlap.specs.Years.{years_of}
 use Rattle.node_compile.specs.Laws.{IsAboveZero, AreLinked, IsLinkedTo, AreLinkedLevels}

@@ -36,9 +36,9 @@ year_from indicators t benchmark =
     year_of (slice_index indicators t) (slice_index indicators (t + 1)) (slice_index indicators (t + 2))
     (slice_index indicators (t + 3)) benchmark
 
--- a run of quarters begins with the indicators of these years
-abbrev pub BeginsWith : List ℕ → List YearPart → Type 0
-BeginsWith indicators years = indicators_of years ++ drop (4 * length years) indicators ≡ indicators
+-- the quarters of these years are the first of a run
+abbrev pub AreFirstQuarters : List YearPart → List ℕ → Type 0
+AreFirstQuarters years indicators = indicators_of years ++ drop (4 * length years) indicators ≡ indicators
 
 -- the values of a run of quarters: the series of its benchmarked years, and past them the ratio with which the last of
 -- them ends, carried forward

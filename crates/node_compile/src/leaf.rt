@@ -12,7 +12,7 @@ ghost use Rattle.price_base.specs.declared.Cell.TheVariants.{Value};
 ghost use Rattle.price_base.specs.Volumes.{volumes_of};
 ghost use Rattle.series_tables.specs.Ranges.{IsBenchmarkOrNone, IsPositiveOrNone};
 ghost use Rattle.node_compile.specs.Laws.{MeetsItsBenchmarks, IsWithinItsGap};
-ghost use Rattle.node_compile.specs.Leaf.{AreBenchmarks, BeginsWith, benchmark_run, joints_in, year_from, run_values, missing_table as missing_table_of, table_of_years, leaf_table};
+ghost use Rattle.node_compile.specs.Leaf.{AreBenchmarks, AreFirstQuarters, benchmark_run, joints_in, year_from, run_values, missing_table as missing_table_of, table_of_years, leaf_table};
 ghost use Rattle.node_compile.specs.Sizes.{AreBelow, AreLeafValues, AreLeafVolumes};
 ghost use Rattle.node_compile.specs.Table.{Makes, table_in};
 
@@ -132,7 +132,7 @@ fn years_from(alloc: Global, ind: &[u32], bench: &[i64]) -> Result<Vec<YearPart>
     ensures years { IfOk result (λ years. years.items ≡ years_of ind.now bench.now) }
     ensures count { IfOk result (λ years. length years.items ≡ length bench.now) }
     ensures begins { IfOk result (λ years. BeginsWithYears years.items ind.now) }
-    ensures indicators { IfOk result (λ years. BeginsWith ind.now years.items) }
+    ensures indicators { IfOk result (λ years. AreFirstQuarters years.items ind.now) }
 {
     let mut years = Vec::with_capacity(alloc, bench.len())?;
     for year in 0..bench.len() {
@@ -194,7 +194,7 @@ fn values_of(
     requires whole_years { 4 * length parts.now ≤ length ind.now }
     requires few { length ind.now ≤ 256 }
     requires indicators { EachIndex ind.now (λ t. IsIndicator (slice_index ind.now t)) }
-    requires years { BeginsWith ind.now parts.now }
+    requires years { AreFirstQuarters parts.now ind.now }
     ensures values { IfOk result (λ out. out.items ≡ run_values scale parts.now u.now ind.now) }
     ensures quarters { IfOk result (λ values. AreQuarters scale ind.now values.items) }
     ensures sizes { IfOk result (λ values. AreBelow values.items) }
@@ -214,7 +214,7 @@ fn write_values(parts: &[YearPart], scale: u8, u: &[i128], ind: &[u32], out: &mu
     requires whole_years { 4 * length parts.now ≤ length ind.now }
     requires few { length ind.now ≤ 256 }
     requires indicators { EachIndex ind.now (λ t. IsIndicator (slice_index ind.now t)) }
-    requires years { BeginsWith ind.now parts.now }
+    requires years { AreFirstQuarters parts.now ind.now }
     requires room { length out.old ≡ length ind.now }
     ensures values { out.new ≡ run_values scale parts.now u.now ind.now }
     ensures quarters { AreQuarters scale ind.now out.new }

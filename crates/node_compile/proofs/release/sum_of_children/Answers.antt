@@ -1,5 +1,4 @@
 use Rattle.std.proofs.Common.{◌≡◌, ◌-◌, ◌^◌, ◌≤◌, ◌∙◌, ℕ, true, None, length, get_or, ap, sym, subst, arith, Global}
-use Rattle.std.specs.Arc.{arc_value}
 use Rattle.std.specs.declared.sync.Arc.{Arc}
 use Rattle.aggregate_tree.specs.Sum.{Sum, with_child}
 use Rattle.aggregate_tree.specs.Tallies.{with_cells, AreValueSums, AreVolumeSums}
