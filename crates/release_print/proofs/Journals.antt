@@ -1,5 +1,5 @@
 -- The journal of a history from an entry on: what the entry adds to it, and the lines of the rest.
-use Rattle.std.proofs.Common.{◌≡◌, ◌∙◌, ℕ, zero, suc, ◌+◌, ◌<◌, List, [], ◌∷◌, ◌++◌, length, drop, get_or, map, refl, ap, arith, append_assoc}
+use Rattle.std.proofs.Common.{◌≡◌, ◌∙◌, ℕ, zero, suc, ◌+◌, ◌<◌, List, [], ◌∷◌, ◌++◌, length, drop, get_or, map, refl, sym, ap, arith, append_assoc}
 use Rattle.std.specs.List.{All}
 use Rattle.accounts_history.specs.History.{Sent, journal, inputs_of}
 use Rattle.accounts_history.specs.declared.entry.Entry.{Entry}
@@ -19,7 +19,8 @@ journal_first (Publish party front jobs) history = refl
 -- the lines of some inputs and then of others
 lines_append : (plan : PlanShape) (first second : List Sent) → sent_lines plan (first ++ second) ≡ sent_lines plan first ++ sent_lines plan second
 lines_append plan [] second = refl
-lines_append plan (sent ∷ first) second = rw (lines_append plan first second, append_assoc) refl
+lines_append plan (sent ∷ first) second =
+    ap (λ (lines : List ℕ). sent_line plan sent ++ lines) (lines_append plan first second) ∙ sym (append_assoc (sent_line plan sent) (sent_lines plan first) (sent_lines plan second))
 
 -- the lines from an entry on are that of its input, if it has one, and those of the entries behind it
 lines_next : (plan : PlanShape) (history : List Entry) (i : ℕ) (d : Entry) → i < length history
@@ -51,3 +52,9 @@ entry_fits plan (Accept party input ∷ history) zero d each inside = one
 entry_fits plan (Publish party front jobs ∷ history) zero d each inside = λ k e below. absurd (omega arith)
 entry_fits plan (Accept party input ∷ history) (suc i) d each inside = entry_fits plan history i d (λ k e below. each (suc k) e (omega arith)) (omega arith)
 entry_fits plan (Publish party front jobs ∷ history) (suc i) d each inside = entry_fits plan history i d each (omega arith)
+
+-- two inputs that fit a plan
+pub two_fit : (plan : PlanShape) (first second : Input) → FitsPlan plan first → FitsPlan plan second → All (FitsPlan plan) (first ∷ second ∷ [])
+two_fit plan first second one two zero d below = one
+two_fit plan first second one two (suc zero) d below = two
+two_fit plan first second one two (suc (suc k)) d below = absurd (omega arith)
