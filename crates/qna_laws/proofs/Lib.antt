@@ -5,3 +5,5 @@ pub mod Printed
 pub mod GapSizes
 pub mod Compiled
 pub mod Found
+pub mod Journals
+pub mod Releases

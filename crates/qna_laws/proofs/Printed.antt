@@ -61,7 +61,7 @@ name_bytes : (name : List ℕ) → list_all is_name_byte name ≡ true → AreAt
 name_bytes [] e = tt
 name_bytes (b ∷ bs) e = let both = and_parts (is_name_byte b) (list_all is_name_byte bs) e in (byte_above b both.0, name_bytes bs both.1)
 
-name_fine : (name : List ℕ) → is_name name ≡ true → AreAtLeast 45 name × (length name ≤ 32)
+pub name_fine : (name : List ℕ) → is_name name ≡ true → AreAtLeast 45 name × (length name ≤ 32)
 name_fine name e =
     let outer = and_parts (leb 1 (length name) && leb (length name) 32) (list_all is_name_byte name) e in
     let inner = and_parts (leb 1 (length name)) (leb (length name) 32) outer.0 in

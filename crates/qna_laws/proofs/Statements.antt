@@ -67,10 +67,10 @@ body_end (multiplier_line year value) = line_end (codes "u") (year_text year ∷
 body_end (gap_line value) = line_end (codes "gap") (signed_decimal value ∷ [])
 body_end end_line = line_end (codes "end") []
 
-year_clear : (year : ℕ) → AreAtLeast 45 (year_text year)
+pub year_clear : (year : ℕ) → AreAtLeast 45 (year_text year)
 year_clear year = (omega arith, (omega arith, (omega arith, (omega arith, tt))))
 
-quarter_clear : (q : Named) → AreAtLeast 45 (quarter_text q)
+pub quarter_clear : (q : Named) → AreAtLeast 45 (quarter_text q)
 quarter_clear q = (omega arith, (omega arith, (omega arith, (omega arith, (omega arith, (omega arith, tt))))))
 
 number_clear : (v : ℤ) → IsSmall v → AreAtLeast 45 (signed_decimal v)
@@ -100,7 +100,7 @@ end_word = (lit≤ tt, (lit≤ tt, (lit≤ tt, tt)))
 letter_word : (c : ℕ) → 45 ≤ c → AreAtLeast 45 (c ∷ [])
 letter_word c above = (above, tt)
 
-line_plain : (word : List ℕ) (fields : List (List ℕ)) → AreAtLeast 45 word → AreFields fields → AreAtLeast 44 (line_body word fields)
+pub line_plain : (word : List ℕ) (fields : List (List ℕ)) → AreAtLeast 45 word → AreFields fields → AreAtLeast 44 (line_body word fields)
 line_plain word fields w a = at_least_append 44 word (fields_body fields) (at_least_lower 45 44 word (omega arith) w) (fields_plain fields a)
 
 pub body_plain : (s : Statement) → IsFine s → AreAtLeast 44 (body_of s)

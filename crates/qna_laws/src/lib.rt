@@ -3,8 +3,12 @@
 #![tactic(auto)]
 
 mod certificates;
+mod journals;
+mod releases;
 
 pub use certificates::{
     accepted_certificates_are_found_true, compiled_certificate_is_true,
     printed_certificate_is_read, printed_certificate_is_true,
 };
+pub use journals::written_journals_are_read;
+pub use releases::releases_are_certified;

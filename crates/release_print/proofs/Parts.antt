@@ -1,9 +1,10 @@
 -- A text that is written part by part: what stands there so far, and what is to come.
-use Rattle.std.proofs.Common.{◌≡◌, ℕ, ◌+◌, ◌<◌, List, [], ◌∷◌, ◌++◌, length, refl, sym, append_assoc, append-nil, OnErr, drop, get_or, add-one, drop-cons, arith}
+use Rattle.std.proofs.Common.{◌≡◌, ℕ, ◌+◌, ◌<◌, List, [], ◌∷◌, ◌++◌, length, refl, sym, append_assoc, append-nil, drop, get_or, add-one, drop-cons, arith}
 use Rattle.std.specs.declared.result.Result.{Result}
-use Rattle.std.proofs.Common.{Ok, Err}
+use Rattle.std.proofs.Common.{Ok, Err, true, false}
+use Rattle.std.specs.Prelude.{IsErr}
 use Rattle.release_print.specs.Line.{fields_text}
-use Rattle.release_print.specs.Part.{AppendsPart}
+use Rattle.release_print.specs.Part.{AppendsPart, Appends}
 
 -- a part of a text stands behind the bytes from before, and the rest of it is to come
 pub record Wrote (old new rest whole : List ℕ) : Type 0 where
@@ -35,11 +36,6 @@ wrote_some old mid new next rest after whole w e some = record { written = w.wri
 pub wrote_kept : (old mid new rest whole : List ℕ) → Wrote old mid rest whole → new ≡ mid → AppendsPart old new whole
 wrote_kept old mid new rest whole w kept = record { written = w.written; rest = rest; behind = rw (kept, w.behind) refl; begins = w.begins }
 
--- what holds always holds where a call failed
-pub at_error : {A E : Type 0} (r : Result A E) (P : Type 0) → P → OnErr r P
-at_error (Ok x) P p = tt
-at_error (Err e) P p = p
-
 -- behind the word of a line with fields to come stands a comma
 pub comma_next : (fields : List (List ℕ)) → 0 < length fields → (after : List ℕ) × (fields_text fields ≡ 44 ∷ after)
 comma_next [] some = absurd (omega arith)
@@ -57,6 +53,12 @@ later_part old mid new piece more whole grown p e = record { written = piece ++ 
 pub from_place : {A : Type 0} (xs : List A) (i : ℕ) (d : A) → i < length xs → drop i xs ≡ get_or xs i d ∷ drop (i + 1) xs
 from_place xs i d inside = rw (add-one, drop-cons xs i d) refl
 
--- three pieces in a row are the text that they make
-pub three_pieces : (old first second new a b z whole : List ℕ) → first ≡ old ++ a → second ≡ first ++ b → whole ≡ a ++ (b ++ z) → new ≡ second ++ z → new ≡ old ++ whole
-three_pieces old first second new a b z whole e f w g = rw (g, f, e, w, append_assoc, append_assoc) refl
+-- behind a text's first piece, what a printer of the rest leaves is what one of the text leaves
+pub appends_behind : {T E : Type 0} (result : Result T E) (old mid new piece more whole : List ℕ) → mid ≡ old ++ piece → whole ≡ piece ++ more → Appends result mid new more → Appends result old new whole
+appends_behind (Ok done) old mid new piece more whole grown e all = rw (all, grown, e, append_assoc) refl
+appends_behind (Err error) old mid new piece more whole grown e part = later_part old mid new piece more whole grown part e
+
+-- a printer that wants memory leaves a part of its text
+pub appends_part : {T E : Type 0} (result : Result T E) (old new text : List ℕ) → IsErr result → AppendsPart old new text → Appends result old new text
+appends_part (Ok done) old new text wants part = absurd (let never : false ≡ true = wants in cc)
+appends_part (Err error) old new text wants part = part

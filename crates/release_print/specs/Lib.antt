@@ -1,4 +1,5 @@
 pub mod Line
 pub mod Release
 pub mod Certificate
+pub mod Journal
 pub mod Part

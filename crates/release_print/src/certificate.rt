@@ -1,14 +1,13 @@
 //! The text of a leaf's certificate.
 
-ghost use Rattle.std.specs.Prelude.{◌≡◌, ◌<◌, ◌≤◌, ◌+◌, ◌++◌, [], ◌∷◌, pos, map, length, codes, All, IsTrue, OnOk, OnErr};
+ghost use Rattle.std.specs.Prelude.{◌≡◌, ◌<◌, ◌≤◌, pos, map, length, IsTrue, Some};
 ghost use Rattle.cert_read.specs.Statement.{certificate_line, scale_line, start_line, indicator_line, benchmark_line, value_line, multiplier_line, gap_line};
 ghost use Rattle.cert_read.specs.Content.{quarter_from, quarterly, yearly};
 ghost use Rattle.node_compile.specs.Laws.{number_in as number_in_cell, numbers_in};
-ghost use Rattle.node_compile.specs.Shape.{IsBenchmarked};
 ghost use Rattle.node_compile.specs.Table.{certificate_in, table_in};
 ghost use Rattle.series_tables.specs.Plan.{is_leaf};
-ghost use Rattle.release_print.specs.Part.{AppendsPart};
-ghost use Rattle.release_print.specs.Certificate.{statement_text, statements_text, head_text, numbers_text, end_text, certificate_text, certificate_or_none};
+ghost use Rattle.release_print.specs.Part.{Appends};
+ghost use Rattle.release_print.specs.Certificate.{statement_text, statements_text, head_text, numbers_text, end_text, certificate_text, certificate_or_none, IsPartOf};
 
 use crate::line::{push_line, quarter_text, year_text};
 use itoa::Buffer;
@@ -19,8 +18,8 @@ use series_tables::Plan;
 
 /// Appends the line of the leaf's name and the front.
 fn push_named(out: &mut Vec<u8>, name: &[u8], front: u64) -> Result<(), Memory>
-    ensures all { OnOk result (out.new.items ≡ out.old.items ++ statement_text (certificate_line name.now (pos front))) }
-    ensures part { OnErr result (AppendsPart out.old.items out.new.items (statement_text (certificate_line name.now (pos front)))) }
+    ensures { Appends result out.old.items out.new.items
+        (statement_text (certificate_line name.now (pos front))) }
 {
     let mut buffer = Buffer::new();
     push_line(out, b"cert", &[name, buffer.format(front).as_bytes()])
@@ -28,8 +27,7 @@ fn push_named(out: &mut Vec<u8>, name: &[u8], front: u64) -> Result<(), Memory>
 
 /// Appends the line of the scale.
 fn push_scale(out: &mut Vec<u8>, scale: u8) -> Result<(), Memory>
-    ensures all { OnOk result (out.new.items ≡ out.old.items ++ statement_text (scale_line (pos scale))) }
-    ensures part { OnErr result (AppendsPart out.old.items out.new.items (statement_text (scale_line (pos scale)))) }
+    ensures { Appends result out.old.items out.new.items (statement_text (scale_line (pos scale))) }
 {
     let mut buffer = Buffer::new();
     push_line(out, b"scale", &[buffer.format(scale).as_bytes()])
@@ -38,8 +36,7 @@ fn push_scale(out: &mut Vec<u8>, scale: u8) -> Result<(), Memory>
 /// Appends the line of the start year.
 fn push_start(out: &mut Vec<u8>, start: u16) -> Result<(), Memory>
     requires { start ≤ 2200 }
-    ensures all { OnOk result (out.new.items ≡ out.old.items ++ statement_text (start_line start)) }
-    ensures part { OnErr result (AppendsPart out.old.items out.new.items (statement_text (start_line start))) }
+    ensures { Appends result out.old.items out.new.items (statement_text (start_line start)) }
 {
     push_line(out, b"start", &[&year_text(start)])
 }
@@ -53,8 +50,7 @@ fn push_head(
     start: u16,
 ) -> Result<(), Memory>
     requires last { start ≤ 2200 }
-    ensures all { OnOk result (out.new.items ≡ out.old.items ++ head_text name.now front scale start) }
-    ensures part { OnErr result (AppendsPart out.old.items out.new.items (head_text name.now front scale start)) }
+    ensures { Appends result out.old.items out.new.items (head_text name.now front scale start) }
 {
     push_named(out, name, front)?;
     push_scale(out, scale)?;
@@ -70,8 +66,8 @@ fn push_indicator(
 ) -> Result<(), Memory>
     requires last { start ≤ 2200 }
     requires within { quarter < 512 }
-    ensures all { OnOk result (out.new.items ≡ out.old.items ++ statement_text (indicator_line (quarter_from start quarter) (pos indicator.now))) }
-    ensures part { OnErr result (AppendsPart out.old.items out.new.items (statement_text (indicator_line (quarter_from start quarter) (pos indicator.now)))) }
+    ensures { Appends result out.old.items out.new.items
+        (statement_text (indicator_line (quarter_from start quarter) (pos indicator.now))) }
 {
     let mut buffer = Buffer::new();
     let place = quarter_text(start, quarter);
@@ -82,8 +78,8 @@ fn push_indicator(
 fn push_indicators(out: &mut Vec<u8>, start: u16, indicators: &[u32]) -> Result<(), Memory>
     requires last { start ≤ 2200 }
     requires few { length indicators.now ≤ 512 }
-    ensures all { OnOk result (out.new.items ≡ out.old.items ++ statements_text (quarterly indicator_line start 0 (map pos indicators.now))) }
-    ensures part { OnErr result (AppendsPart out.old.items out.new.items (statements_text (quarterly indicator_line start 0 (map pos indicators.now)))) }
+    ensures { Appends result out.old.items out.new.items
+        (statements_text (quarterly indicator_line start 0 (map pos indicators.now))) }
 {
     for (quarter, indicator) in indicators.iter().enumerate() {
         push_indicator(out, start, quarter, indicator)?;
@@ -94,8 +90,8 @@ fn push_indicators(out: &mut Vec<u8>, start: u16, indicators: &[u32]) -> Result<
 /// Appends the line of a year's benchmark.
 fn push_benchmark(out: &mut Vec<u8>, year: u16, benchmark: &i64) -> Result<(), Memory>
     requires { year < 10000 }
-    ensures all { OnOk result (out.new.items ≡ out.old.items ++ statement_text (benchmark_line year benchmark.now)) }
-    ensures part { OnErr result (AppendsPart out.old.items out.new.items (statement_text (benchmark_line year benchmark.now))) }
+    ensures { Appends result out.old.items out.new.items
+        (statement_text (benchmark_line year benchmark.now)) }
 {
     let mut buffer = Buffer::new();
     let place = year_text(year);
@@ -106,8 +102,8 @@ fn push_benchmark(out: &mut Vec<u8>, year: u16, benchmark: &i64) -> Result<(), M
 fn push_benchmarks(out: &mut Vec<u8>, start: u16, benchmarks: &[i64]) -> Result<(), Memory>
     requires last { start ≤ 2200 }
     requires few { length benchmarks.now ≤ 128 }
-    ensures all { OnOk result (out.new.items ≡ out.old.items ++ statements_text (yearly benchmark_line start benchmarks.now)) }
-    ensures part { OnErr result (AppendsPart out.old.items out.new.items (statements_text (yearly benchmark_line start benchmarks.now))) }
+    ensures { Appends result out.old.items out.new.items
+        (statements_text (yearly benchmark_line start benchmarks.now)) }
 {
     for (place, benchmark) in benchmarks.iter().enumerate() {
         push_benchmark(out, start + place as u16, benchmark)?;
@@ -119,8 +115,8 @@ fn push_benchmarks(out: &mut Vec<u8>, start: u16, benchmarks: &[i64]) -> Result<
 fn push_value(out: &mut Vec<u8>, start: u16, quarter: usize, cell: &Cell) -> Result<(), Memory>
     requires last { start ≤ 2200 }
     requires within { quarter < 512 }
-    ensures all { OnOk result (out.new.items ≡ out.old.items ++ statement_text (value_line (quarter_from start quarter) (number_in_cell cell.now))) }
-    ensures part { OnErr result (AppendsPart out.old.items out.new.items (statement_text (value_line (quarter_from start quarter) (number_in_cell cell.now)))) }
+    ensures { Appends result out.old.items out.new.items
+        (statement_text (value_line (quarter_from start quarter) (number_in_cell cell.now))) }
 {
     let mut buffer = Buffer::new();
     let place = quarter_text(start, quarter);
@@ -135,8 +131,8 @@ fn push_value(out: &mut Vec<u8>, start: u16, quarter: usize, cell: &Cell) -> Res
 fn push_values(out: &mut Vec<u8>, start: u16, cells: &[Cell]) -> Result<(), Memory>
     requires last { start ≤ 2200 }
     requires few { length cells.now ≤ 512 }
-    ensures all { OnOk result (out.new.items ≡ out.old.items ++ statements_text (quarterly value_line start 0 (numbers_in cells.now))) }
-    ensures part { OnErr result (AppendsPart out.old.items out.new.items (statements_text (quarterly value_line start 0 (numbers_in cells.now)))) }
+    ensures { Appends result out.old.items out.new.items
+        (statements_text (quarterly value_line start 0 (numbers_in cells.now))) }
 {
     for (quarter, cell) in cells.iter().enumerate() {
         push_value(out, start, quarter, cell)?;
@@ -157,8 +153,8 @@ fn number_in(cell: &Cell) -> i128
 /// Appends the line of the multiplier after a year.
 fn push_multiplier(out: &mut Vec<u8>, year: u16, multiplier: &i128) -> Result<(), Memory>
     requires { year < 10000 }
-    ensures all { OnOk result (out.new.items ≡ out.old.items ++ statement_text (multiplier_line year multiplier.now)) }
-    ensures part { OnErr result (AppendsPart out.old.items out.new.items (statement_text (multiplier_line year multiplier.now))) }
+    ensures { Appends result out.old.items out.new.items
+        (statement_text (multiplier_line year multiplier.now)) }
 {
     let mut buffer = Buffer::new();
     let place = year_text(year);
@@ -169,8 +165,8 @@ fn push_multiplier(out: &mut Vec<u8>, year: u16, multiplier: &i128) -> Result<()
 fn push_multipliers(out: &mut Vec<u8>, start: u16, multipliers: &[i128]) -> Result<(), Memory>
     requires last { start ≤ 2200 }
     requires few { length multipliers.now ≤ 128 }
-    ensures all { OnOk result (out.new.items ≡ out.old.items ++ statements_text (yearly multiplier_line start multipliers.now)) }
-    ensures part { OnErr result (AppendsPart out.old.items out.new.items (statements_text (yearly multiplier_line start multipliers.now))) }
+    ensures { Appends result out.old.items out.new.items
+        (statements_text (yearly multiplier_line start multipliers.now)) }
 {
     for (place, multiplier) in multipliers.iter().enumerate() {
         push_multiplier(out, start + place as u16, multiplier)?;
@@ -180,8 +176,7 @@ fn push_multipliers(out: &mut Vec<u8>, start: u16, multipliers: &[i128]) -> Resu
 
 /// Appends the line of the gap.
 fn push_gap(out: &mut Vec<u8>, gap: &i128) -> Result<(), Memory>
-    ensures all { OnOk result (out.new.items ≡ out.old.items ++ statement_text (gap_line gap.now)) }
-    ensures part { OnErr result (AppendsPart out.old.items out.new.items (statement_text (gap_line gap.now))) }
+    ensures { Appends result out.old.items out.new.items (statement_text (gap_line gap.now)) }
 {
     let mut buffer = Buffer::new();
     push_line(out, b"gap", &[buffer.format(*gap).as_bytes()])
@@ -189,8 +184,7 @@ fn push_gap(out: &mut Vec<u8>, gap: &i128) -> Result<(), Memory>
 
 /// Appends the two lines at the end: the gap, and `end`.
 fn push_end(out: &mut Vec<u8>, gap: &i128) -> Result<(), Memory>
-    ensures all { OnOk result (out.new.items ≡ out.old.items ++ end_text gap.now) }
-    ensures part { OnErr result (AppendsPart out.old.items out.new.items (end_text gap.now)) }
+    ensures { Appends result out.old.items out.new.items (end_text gap.now) }
 {
     push_gap(out, gap)?;
     push_line(out, b"end", &[])
@@ -205,9 +199,9 @@ fn push_numbers(
 ) -> Result<(), Memory>
     requires last { start ≤ 2200 }
     requires few { length cells.now ≤ 512 }
-    requires benchmarked { IsBenchmarked part.now.ind.items part.now.bench.items part.now.cert.u.items cells.now }
-    ensures all { OnOk result (out.new.items ≡ out.old.items ++ numbers_text start (certificate_in part.now) cells.now) }
-    ensures part { OnErr result (AppendsPart out.old.items out.new.items (numbers_text start (certificate_in part.now) cells.now)) }
+    requires benchmarked { IsPartOf part.now cells.now }
+    ensures { Appends result out.old.items out.new.items
+        (numbers_text start (certificate_in part.now) cells.now) }
 {
     push_indicators(out, start, &part.ind)?;
     push_benchmarks(out, start, &part.bench)?;
@@ -226,18 +220,19 @@ fn push_certificate(
 ) -> Result<(), Memory>
     requires last { start ≤ 2200 }
     requires few { length cells.now ≤ 512 }
-    requires benchmarked { IsBenchmarked part.now.ind.items part.now.bench.items part.now.cert.u.items cells.now }
-    ensures all { OnOk result (out.new.items ≡ out.old.items ++ certificate_or_none start name.now front (Some (certificate_in part.now)) cells.now) }
-    ensures part { OnErr result (AppendsPart out.old.items out.new.items (certificate_or_none start name.now front (Some (certificate_in part.now)) cells.now)) }
+    requires benchmarked { IsPartOf part.now cells.now }
+    ensures { Appends result out.old.items out.new.items
+        (certificate_or_none start name.now front (Some (certificate_in part.now)) cells.now) }
 {
     push_head(out, name, front, part.cert.scale, start)?;
     push_numbers(out, start, part, cells)?;
     push_end(out, &part.cert.gap)
 }
 
-/// Appends the certificate of a leaf at a front, from the leaf's table: its name and the front, the scale and the start year, then, line by line, its indicators,
-/// its benchmarks, its values in whole currency units and its multipliers in units of 1 over 10^scale, and the gap. A leaf without a benchmarked year has the
-/// one line `nocert` with its name and the front. After `Memory` a part of the text stands behind what `out` held.
+/// Appends the certificate of a leaf at a front, from the leaf's table: its name and the front, the scale and the start
+/// year, then, line by line, its indicators, its benchmarks, its values in whole currency units and its multipliers in
+/// units of 1 over 10^scale, and the gap. A leaf without a benchmarked year has the one line `nocert` with its name and
+/// the front. After `Memory` a part of the text stands behind what `out` held.
 #[tactic(auto, unfolding(crate::specs::Certificate::certificate_text))]
 pub fn print_cert(
     plan: &Plan,
@@ -248,8 +243,8 @@ pub fn print_cert(
 ) -> Result<(), Memory>
     requires item { node < length plan.now.names }
     requires leaf { IsTrue (is_leaf plan.now node) }
-    ensures all { OnOk result (out.new.items ≡ out.old.items ++ certificate_text plan.now front node (table_in table.now)) }
-    ensures part { OnErr result (AppendsPart out.old.items out.new.items (certificate_text plan.now front node (table_in table.now))) }
+    ensures { Appends result out.old.items out.new.items
+        (certificate_text plan.now front node (table_in table.now)) }
 {
     let name = plan.name(node);
     match &table.leaf {

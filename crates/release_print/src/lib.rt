@@ -1,11 +1,13 @@
-//! The texts of a release and of a leaf's certificate.
+//! The texts of a release, of a leaf's certificate and of a journal.
 #![tactic(auto)]
 
 mod certificate;
+mod journal;
 mod line;
 mod release;
 
 pub use certificate::print_cert;
+pub use journal::print_journal;
 pub use release::{print_node, print_release};
 
 #[cfg(test)]

@@ -1,17 +1,18 @@
 //! One printed line.
 
-ghost use Rattle.std.specs.Prelude.{◌≡◌, ◌<◌, ◌≤◌, ◌+◌, ◌++◌, map, OnOk, OnErr};
+ghost use Rattle.std.specs.Prelude.{◌≡◌, ◌<◌, ◌≤◌, map};
 ghost use Rattle.period_keys.specs.Period.{quarter_text as quarter_text_of, year_text as year_text_of};
 ghost use Rattle.cert_read.specs.Content.{quarter_from};
 ghost use Rattle.release_print.specs.Line.{line_text};
-ghost use Rattle.release_print.specs.Part.{AppendsPart};
+ghost use Rattle.release_print.specs.Part.{Appends};
 
 use qna_base::Memory;
 
-/// Appends a line: its word, its fields, each behind a comma, and a line feed. After `Memory` a part of the line stands there.
+/// Appends a line: its word, its fields, each behind a comma, and a line feed. After `Memory` a part of the line stands
+/// there.
 pub(crate) fn push_line(out: &mut Vec<u8>, word: &[u8], fields: &[&[u8]]) -> Result<(), Memory>
-    ensures all { OnOk result (out.new.items ≡ out.old.items ++ line_text word.now (map (λ field. field.now) fields.now)) }
-    ensures part { OnErr result (AppendsPart out.old.items out.new.items (line_text word.now (map (λ field. field.now) fields.now))) }
+    ensures { Appends result out.old.items out.new.items
+        (line_text word.now (map (λ field. field.now) fields.now)) }
 {
     out.extend_from_slice(word)?;
     for field in fields {

@@ -1,11 +1,10 @@
 //! The text of a release.
 
-ghost use Rattle.std.specs.Prelude.{◌≡◌, ◌<◌, ◌≤◌, ◌+◌, ◌++◌, map, length, codes, All, OnOk, OnErr};
-ghost use Rattle.std.specs.Arc.{arc_value};
+ghost use Rattle.std.specs.Prelude.{◌≡◌, ◌<◌, ◌≤◌, length, Some};
 ghost use Rattle.node_compile.specs.Release.{tables_in};
-ghost use Rattle.node_compile.specs.Table.{certificate_in, table_in};
+ghost use Rattle.node_compile.specs.Table.{certificate_in, node_tables, table_in};
 ghost use Rattle.release_print.specs.Line.{edge_line};
-ghost use Rattle.release_print.specs.Part.{AppendsPart};
+ghost use Rattle.release_print.specs.Part.{Appends};
 ghost use Rattle.release_print.specs.Release.{cell_text as cell_text_of, cell_line, cell_lines, quarter_lines, year_line, year_lines, gap_line, item_lines, items_lines, release_text, node_text};
 
 use crate::line::{push_line, quarter_text, year_text};
@@ -40,8 +39,8 @@ fn push_cell(
 ) -> Result<(), Memory>
     requires last { start ≤ 2200 }
     requires within { quarter < 512 }
-    ensures all { OnOk result (out.new.items ≡ out.old.items ++ cell_line word.now start name.now quarter cell.now) }
-    ensures part { OnErr result (AppendsPart out.old.items out.new.items (cell_line word.now start name.now quarter cell.now)) }
+    ensures { Appends result out.old.items out.new.items
+        (cell_line word.now start name.now quarter cell.now) }
 {
     let mut buffer = Buffer::new();
     let place = quarter_text(start, quarter);
@@ -58,8 +57,8 @@ fn push_cells(
 ) -> Result<(), Memory>
     requires last { start ≤ 2200 }
     requires few { length cells.now ≤ 512 }
-    ensures all { OnOk result (out.new.items ≡ out.old.items ++ cell_lines word.now start name.now 0 cells.now) }
-    ensures part { OnErr result (AppendsPart out.old.items out.new.items (cell_lines word.now start name.now 0 cells.now)) }
+    ensures { Appends result out.old.items out.new.items
+        (cell_lines word.now start name.now 0 cells.now) }
 {
     for (quarter, cell) in cells.iter().enumerate() {
         push_cell(out, word, start, name, quarter, cell)?;
@@ -67,7 +66,8 @@ fn push_cells(
     Ok(())
 }
 
-/// Appends the lines of an item's quarters: its values, then its volumes at previous-year prices, then its chained volumes.
+/// Appends the lines of an item's quarters: its values, then its volumes at previous-year prices, then its chained
+/// volumes.
 fn push_quarters(
     out: &mut Vec<u8>,
     start: u16,
@@ -80,8 +80,8 @@ fn push_quarters(
     requires few_values { length values.now ≤ 512 }
     requires few_volumes { length volumes.now ≤ 512 }
     requires few_chained { length chained.now ≤ 512 }
-    ensures all { OnOk result (out.new.items ≡ out.old.items ++ quarter_lines start name.now values.now volumes.now chained.now) }
-    ensures part { OnErr result (AppendsPart out.old.items out.new.items (quarter_lines start name.now values.now volumes.now chained.now)) }
+    ensures { Appends result out.old.items out.new.items
+        (quarter_lines start name.now values.now volumes.now chained.now) }
 {
     push_cells(out, b"v", start, name, values)?;
     push_cells(out, b"k", start, name, volumes)?;
@@ -99,8 +99,8 @@ fn push_year(
     drift: &Cell,
 ) -> Result<(), Memory>
     requires { year < 10000 }
-    ensures all { OnOk result (out.new.items ≡ out.old.items ++ year_line year name.now value.now volume.now level.now drift.now) }
-    ensures part { OnErr result (AppendsPart out.old.items out.new.items (year_line year name.now value.now volume.now level.now drift.now)) }
+    ensures { Appends result out.old.items out.new.items
+        (year_line year name.now value.now volume.now level.now drift.now) }
 {
     let mut values = Buffer::new();
     let mut volumes = Buffer::new();
@@ -136,8 +136,8 @@ fn push_years(
     requires volumes { length volumes.now ≡ length values.now }
     requires levels { length levels.now ≡ length values.now }
     requires drifts { length drifts.now ≡ length values.now }
-    ensures all { OnOk result (out.new.items ≡ out.old.items ++ year_lines start name.now values.now volumes.now levels.now drifts.now) }
-    ensures part { OnErr result (AppendsPart out.old.items out.new.items (year_lines start name.now values.now volumes.now levels.now drifts.now)) }
+    ensures { Appends result out.old.items out.new.items
+        (year_lines start name.now values.now volumes.now levels.now drifts.now) }
 {
     for (place, value) in values.iter().enumerate() {
         push_year(
@@ -155,8 +155,8 @@ fn push_years(
 
 /// Appends the line of a leaf with benchmarked years: how many they are, their scale and the gap.
 fn push_gap(out: &mut Vec<u8>, name: &[u8], part: &LeafPart) -> Result<(), Memory>
-    ensures all { OnOk result (out.new.items ≡ out.old.items ++ gap_line name.now (Some (certificate_in part.now))) }
-    ensures part { OnErr result (AppendsPart out.old.items out.new.items (gap_line name.now (Some (certificate_in part.now)))) }
+    ensures { Appends result out.old.items out.new.items
+        (gap_line name.now (Some (certificate_in part.now))) }
 {
     let mut years = Buffer::new();
     let mut scale = Buffer::new();
@@ -175,18 +175,18 @@ fn push_gap(out: &mut Vec<u8>, name: &[u8], part: &LeafPart) -> Result<(), Memor
 
 /// Appends the line that begins or ends a release: its word and the front.
 fn push_edge(out: &mut Vec<u8>, word: &[u8], front: u64) -> Result<(), Memory>
-    ensures all { OnOk result (out.new.items ≡ out.old.items ++ edge_line word.now front) }
-    ensures part { OnErr result (AppendsPart out.old.items out.new.items (edge_line word.now front)) }
+    ensures { Appends result out.old.items out.new.items (edge_line word.now front) }
 {
     let mut buffer = Buffer::new();
     push_line(out, word, &[buffer.format(front).as_bytes()])
 }
 
-/// Appends the lines of an item: those of its quarters, those of its years, and its gap where it is a leaf with benchmarked years.
+/// Appends the lines of an item: those of its quarters, those of its years, and its gap where it is a leaf with
+/// benchmarked years.
 fn push_item(out: &mut Vec<u8>, start: u16, name: &[u8], table: &NodeTable) -> Result<(), Memory>
     requires { start ≤ 2200 }
-    ensures all { OnOk result (out.new.items ≡ out.old.items ++ item_lines start name.now (table_in table.now)) }
-    ensures part { OnErr result (AppendsPart out.old.items out.new.items (item_lines start name.now (table_in table.now))) }
+    ensures { Appends result out.old.items out.new.items
+        (item_lines start name.now (table_in table.now)) }
 {
     push_quarters(
         out,
@@ -214,8 +214,8 @@ fn push_item(out: &mut Vec<u8>, start: u16, name: &[u8], table: &NodeTable) -> R
 /// Appends the lines of the plan's items, each with its table.
 fn push_items(out: &mut Vec<u8>, plan: &Plan, nodes: &[Arc<NodeTable>]) -> Result<(), Memory>
     requires { length nodes.now ≡ length plan.now.names }
-    ensures all { OnOk result (out.new.items ≡ out.old.items ++ items_lines plan.now.start plan.now.names (map (λ node. table_in (arc_value node)) nodes.now)) }
-    ensures part { OnErr result (AppendsPart out.old.items out.new.items (items_lines plan.now.start plan.now.names (map (λ node. table_in (arc_value node)) nodes.now))) }
+    ensures { Appends result out.old.items out.new.items
+        (items_lines plan.now.start plan.now.names (node_tables nodes.now)) }
 {
     for item in 0..plan.len() {
         push_item(out, plan.start(), plan.name(item), &nodes[item as usize])?;
@@ -223,28 +223,32 @@ fn push_items(out: &mut Vec<u8>, plan: &Plan, nodes: &[Arc<NodeTable>]) -> Resul
     Ok(())
 }
 
-/// Appends the text of a release: `release` and the front, the lines of the plan's items in the plan's order, and `end` and the front.
+/// Appends the text of a release: `release` and the front, the lines of the plan's items in the plan's order, and `end`
+/// and the front.
 ///
-/// An item has a line `v` for each quarter, with its value in whole currency units; then a line `k` for each quarter, with its volume at
-/// previous-year prices in the same unit; then a line `c` for each quarter, with its chained volume in ten-thousandths of a currency unit. Behind
-/// them stands a line `a` for each year that has one of these quarters: the year's value and its volume at previous-year prices, in whole currency
-/// units, its level, which is its chained volume, and the level's drift, both in ten-thousandths of a currency unit. The drift says how far the level
-/// is at most from the exact chained volume. Each of these figures is a number or the word of a mark. A leaf with benchmarked years has last a line
-/// `g`: how many these years are, the scale, and the gap in units of 1 over the square of 10^scale.
+/// An item has a line `v` for each quarter, with its value in whole currency units; then a line `k` for each quarter,
+/// with its volume at previous-year prices in the same unit; then a line `c` for each quarter, with its chained volume
+/// in ten-thousandths of a currency unit. Behind them stands a line `a` for each year that has one of these quarters:
+/// the year's value and its volume at previous-year prices, in whole currency units, its level, which is its chained
+/// volume, and the level's drift, both in ten-thousandths of a currency unit. The drift says how far the level is at
+/// most from the exact chained volume. Each of these figures is a number or the word of a mark. A leaf with benchmarked
+/// years has last a line `g`: how many these years are, the scale, and the gap in units of 1 over the square of
+/// 10^scale.
 ///
 /// There is one table for each item. After `Memory` a part of the text stands behind what `out` held.
 pub fn print_release(plan: &Plan, release: &Release, out: &mut Vec<u8>) -> Result<(), Memory>
     requires { length (tables_in release.now) ≡ length plan.now.names }
-    ensures all { OnOk result (out.new.items ≡ out.old.items ++ release_text plan.now release.now.front (tables_in release.now)) }
-    ensures part { OnErr result (AppendsPart out.old.items out.new.items (release_text plan.now release.now.front (tables_in release.now))) }
+    ensures { Appends result out.old.items out.new.items
+        (release_text plan.now release.now.front (tables_in release.now)) }
 {
     push_edge(out, b"release", release.front)?;
     push_items(out, plan, release.nodes.as_slice())?;
     push_edge(out, b"end", release.front)
 }
 
-/// Appends the block of one item at a front, from the item's table: `release` and the front, the lines `v`, `k`, `c`, `a` and `g` that the item has
-/// in a release, in the same units, and `end` and the front. After `Memory` a part of the text stands behind what `out` held.
+/// Appends the block of one item at a front, from the item's table: `release` and the front, the lines `v`, `k`, `c`,
+/// `a` and `g` that the item has in a release, in the same units, and `end` and the front. After `Memory` a part of the
+/// text stands behind what `out` held.
 pub fn print_node(
     plan: &Plan,
     front: u64,
@@ -253,8 +257,8 @@ pub fn print_node(
     out: &mut Vec<u8>,
 ) -> Result<(), Memory>
     requires item { node < length plan.now.names }
-    ensures all { OnOk result (out.new.items ≡ out.old.items ++ node_text plan.now front node (table_in table.now)) }
-    ensures part { OnErr result (AppendsPart out.old.items out.new.items (node_text plan.now front node (table_in table.now))) }
+    ensures { Appends result out.old.items out.new.items
+        (node_text plan.now front node (table_in table.now)) }
 {
     push_edge(out, b"release", front)?;
     push_item(out, plan.start(), plan.name(node), table)?;

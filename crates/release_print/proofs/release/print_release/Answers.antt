@@ -1,27 +1,20 @@
 use Rattle.std.proofs.Common.{refl}
-use Rattle.std.proofs.lemmas.Result.{on_err_weaker, on_ok_weaker}
 use Rattle.release_print.specs.Release.{release_text}
-use Rattle.release_print.proofs.Parts.{first_part, later_part, at_error, three_pieces}
+use Rattle.release_print.proofs.Parts.{first_part, later_part, appends_behind, appends_part}
 use Rattle.release_print.proofs.release.print_release.Goals as goal
 
-pub returns-in_err-push_edge-clause-part : goal.returns-in_err-push_edge-clause-part
+pub returns-in_err-push_edge : goal.returns-in_err-push_edge
 unfolding release_text
-returns-in_err-push_edge-clause-part c = at_error _ _ (first_part _ _ _ _ _ c.in_err-push_edge.ensures.part refl)
+returns-in_err-push_edge c = appends_part c.from_residual.result _ _ _ c.from_residual.ensures.0 (first_part _ _ _ _ _ c.in_err-push_edge.ensures refl)
 
-pub returns-in_err-push_items-clause-part : goal.returns-in_err-push_items-clause-part
+pub returns-in_err-push_items : goal.returns-in_err-push_items
 unfolding release_text
-returns-in_err-push_items-clause-part c =
-    let p = rw c.as_slice.ensures.value at c.in_err-push_items.ensures.part in
-    at_error _ _ (later_part _ _ _ _ _ _ c.in_ok-push_edge.ensures.all (first_part _ _ _ _ _ p refl) refl)
+returns-in_err-push_items c =
+    let p = rw c.as_slice.ensures.value at c.in_err-push_items.ensures in
+    appends_part c.from_residual-in_err-push_items.result _ _ _ c.from_residual-in_err-push_items.ensures.0 (later_part _ _ _ _ _ _ c.in_ok-push_edge.ensures (first_part _ _ _ _ _ p refl) refl)
 
-pub returns-clause-part : goal.returns-clause-part
+pub returns : goal.returns
 unfolding release_text
-returns-clause-part c =
-    let items = rw c.as_slice.ensures.value at c.in_ok-push_items.ensures.all in
-    on_err_weaker c.push_edge-2.result (λ p. later_part _ _ _ _ _ _ c.in_ok-push_edge.ensures.all (later_part _ _ _ _ _ _ items p refl) refl) c.push_edge-2.ensures.part
-
-pub returns-clause-all : goal.returns-clause-all
-unfolding release_text
-returns-clause-all c =
-    let items = rw c.as_slice.ensures.value at c.in_ok-push_items.ensures.all in
-    on_ok_weaker c.push_edge-2.result (three_pieces _ _ _ _ _ _ _ _ c.in_ok-push_edge.ensures.all items refl) c.push_edge-2.ensures.all
+returns c =
+    let items = rw c.as_slice.ensures.value at c.in_ok-push_items.ensures in
+    appends_behind c.push_edge-2.result _ _ _ _ _ _ c.in_ok-push_edge.ensures refl (appends_behind c.push_edge-2.result _ _ _ _ _ _ items refl c.push_edge-2.ensures)
