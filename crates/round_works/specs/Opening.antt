@@ -20,6 +20,7 @@ use Rattle.round_works.specs.declared.work.Work.{Work}
 -- what is shown for the items without a job is what they have after these inputs, and every job waits
 pub record ShowsOthers (plan : PlanShape) (inputs : List Input) (jobs : List JobState) (shown : List (Arc NodeTable Global)) : Type 0 where
   pub fits : All (FitsPlan plan) inputs
+  pub items : length jobs ≡ length plan.names
   pub waiting : (item : ℕ) → IsTrue (is_job (state_of jobs item)) → state_of jobs item ≡ Waiting
   pub others : (item : ℕ) → item < length plan.names → state_of jobs item ≡ Clean →
       slice_get (map shared_table shown) item ≡ Some (table_after plan inputs item)
