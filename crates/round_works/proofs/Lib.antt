@@ -5,4 +5,5 @@ pub mod Bounds
 pub mod States
 pub mod Works
 pub mod Others
+pub mod Beginnings
 pub mod Rounds

@@ -14,7 +14,9 @@ use Rattle.aggregate_tree.specs.Tallies.{IsSumOf, with_cells}
 use Rattle.aggregate_tree.proofs.Places.{sum_more, length-with_cells}
 use Rattle.price_base.specs.declared.Cell.{Cell}
 use Rattle.series_tables.specs.Plan.{PlanShape, is_parent}
+use Rattle.series_tables.specs.Tree.{leaves_under}
 use Rattle.series_tables.specs.declared.input.Input.{Input}
+use Rattle.node_compile.specs.Items.{IsKnownItem}
 use Rattle.node_compile.specs.Table.{Table, table_in}
 use Rattle.node_compile.specs.declared.table.NodeTable.{NodeTable}
 use Rattle.dirty_plan.specs.Round.{is_job, is_unfinished, state_of}
@@ -24,6 +26,7 @@ use Rattle.round_works.specs.Making.{settled, settled_from, values_after, volume
 use Rattle.round_works.specs.Opening.{ShowsOthers, is_other_child}
 use Rattle.round_works.specs.Tables.{shared_table}
 use Rattle.round_works.specs.Works.{table_after}
+use Rattle.round_works.proofs.Bounds.{CanTake, can_take}
 use Rattle.round_works.proofs.Known.{known_after}
 
 -- the settled children from an item on: the item itself where it is one, and those behind it
@@ -68,7 +71,7 @@ both_true true true e = absurd (cc)
 both_true false b e = absurd (cc)
 
 -- what is shown of it is its table after the inputs
-pub shown_table : (plan : PlanShape) (inputs : List Input) (jobs : List JobState) (shown : List (Arc NodeTable Global)) (item child : ℕ) (node : Arc NodeTable Global) → ShowsOthers plan inputs jobs shown →
+shown_table : (plan : PlanShape) (inputs : List Input) (jobs : List JobState) (shown : List (Arc NodeTable Global)) (item child : ℕ) (node : Arc NodeTable Global) → ShowsOthers plan inputs jobs shown →
     child < length plan.names → is_other_child plan jobs item child ≡ true → slice_get shown child ≡ Some node → table_in (arc_value node) ≡ table_after plan inputs child
 shown_table plan inputs jobs shown item child node shows inside other there =
     let clean : state_of jobs child ≡ Clean = clean_state (state_of jobs child) (both_true (is_parent item (get_or plan.parents child None)) (is_job (state_of jobs child)) other) in
@@ -91,10 +94,10 @@ sum_none plan inputs jobs item first sum past is value prev room room_prev = rec
     nothing f = ap (λ (ps : List (Option ℕ)). settled item ps (drop first jobs) (map f (range_with_len first (length plan.parents - first)))) (drop_all first plan.parents past)
 
 -- one item more, which is a child without a job and whose flows are added
-pub sum_with : (plan : PlanShape) (inputs : List Input) (jobs : List JobState) (shown : List (Arc NodeTable Global)) (item first : ℕ) (sum : Sum) → ShowsOthers plan inputs jobs shown →
-    length plan.parents ≡ length plan.names → first < length plan.parents → is_other_child plan jobs item first ≡ true → IsSumFrom plan inputs jobs item (suc first) sum →
+sum_with : (plan : PlanShape) (inputs : List Input) (jobs : List JobState) (shown : List (Arc NodeTable Global)) (item first : ℕ) (sum : Sum) → ShowsOthers plan inputs jobs shown →
+    first < length plan.parents → is_other_child plan jobs item first ≡ true → IsSumFrom plan inputs jobs item (suc first) sum →
     IsSumFrom plan inputs jobs item first (with_child (values_after plan inputs first) (volumes_after plan inputs first) sum)
-sum_with plan inputs jobs shown item first sum shows named inside other from = record {
+sum_with plan inputs jobs shown item first sum shows inside other from = record {
   room = length-with_cells (values_after plan inputs first) sum.value ∙ from.room;
   room_prev = length-with_cells (volumes_after plan inputs first) sum.prev ∙ from.room_prev;
   count = (let more : sum.children + 1 ≡ suc (length (settled_from plan jobs (values_after plan inputs) item (suc first))) = omega (arith, from.count) in more) ∙ sym (ap length (one_more (values_after plan inputs)));
@@ -104,18 +107,19 @@ sum_with plan inputs jobs shown item first sum shows named inside other from = r
     (sum_more (volumes_after plan inputs first) (settled_from plan jobs (volumes_after plan inputs) item (suc first)) sum.prev (omega (arith, known.prev.few, from.room_prev)) from.prev);
 }
   where
+    known : IsKnownItem (length (leaves_under plan first)) (table_after plan inputs first)
     known = known_after plan inputs first shows.fits inside
 
     one_more : (f : ℕ → List Cell) → settled_from plan jobs f item first ≡ f first ∷ settled_from plan jobs f item (suc first)
     one_more f =
-        settled_at plan jobs f item first inside (omega (arith, shows.items, named))
+        settled_at plan jobs f item first inside shows.items
         ∙ ap (λ (b : Bool). cond b (f first ∷ settled_from plan jobs f item (suc first)) (settled_from plan jobs f item (suc first))) (settled_other_child plan inputs jobs shown item first shows ∙ other)
 
 -- one item more, which is none
 pub sum_past : (plan : PlanShape) (inputs : List Input) (jobs : List JobState) (shown : List (Arc NodeTable Global)) (item first : ℕ) (sum : Sum) → ShowsOthers plan inputs jobs shown →
-    length plan.parents ≡ length plan.names → first < length plan.parents → is_other_child plan jobs item first ≡ false → IsSumFrom plan inputs jobs item (suc first) sum →
+    first < length plan.parents → is_other_child plan jobs item first ≡ false → IsSumFrom plan inputs jobs item (suc first) sum →
     IsSumFrom plan inputs jobs item first sum
-sum_past plan inputs jobs shown item first sum shows named inside none from = record {
+sum_past plan inputs jobs shown item first sum shows inside none from = record {
   room = from.room;
   room_prev = from.room_prev;
   count = from.count ∙ sym (ap length (as_before (values_after plan inputs)));
@@ -125,5 +129,41 @@ sum_past plan inputs jobs shown item first sum shows named inside none from = re
   where
     as_before : (f : ℕ → List Cell) → settled_from plan jobs f item first ≡ settled_from plan jobs f item (suc first)
     as_before f =
-        settled_at plan jobs f item first inside (omega (arith, shows.items, named))
+        settled_at plan jobs f item first inside shows.items
         ∙ ap (λ (b : Bool). cond b (f first ∷ settled_from plan jobs f item (suc first)) (settled_from plan jobs f item (suc first))) (settled_other_child plan inputs jobs shown item first shows ∙ none)
+
+-- a turn of the loop at a child without a job, whose table is lent
+pub record IsTurn (plan : PlanShape) (jobs : List JobState) (shown : List (Arc NodeTable Global)) (item child next : ℕ) (lent : NodeTable) : Type 0 where
+  pub node : Arc NodeTable Global
+  pub behind : item < child
+  pub inside : child < length plan.parents
+  pub named : child < length plan.names
+  pub follows : suc child ≡ next
+  pub other : is_other_child plan jobs item child ≡ true
+  pub there : slice_get shown child ≡ Some node
+  pub lends : lent ≡ arc_value node
+
+lent_table : (plan : PlanShape) (inputs : List Input) (jobs : List JobState) (shown : List (Arc NodeTable Global)) (item child next : ℕ) (lent : NodeTable) → ShowsOthers plan inputs jobs shown →
+    IsTurn plan jobs shown item child next lent → table_in lent ≡ table_after plan inputs child
+lent_table plan inputs jobs shown item child next lent shows turn =
+    ap table_in turn.lends ∙ shown_table plan inputs jobs shown item child turn.node shows turn.named turn.other turn.there
+
+sum_with_turn : (plan : PlanShape) (inputs : List Input) (jobs : List JobState) (shown : List (Arc NodeTable Global)) (item child next : ℕ) (lent : NodeTable) (sum : Sum) → ShowsOthers plan inputs jobs shown →
+    IsTurn plan jobs shown item child next lent → IsSumFrom plan inputs jobs item next sum → IsSumFrom plan inputs jobs item child (with_child (values_after plan inputs child) (volumes_after plan inputs child) sum)
+sum_with_turn plan inputs jobs shown item child next lent sum shows turn from =
+    sum_with plan inputs jobs shown item child sum shows turn.inside turn.other (subst (λ (n : ℕ). IsSumFrom plan inputs jobs item n sum) (sym turn.follows) from)
+
+-- the sum has the child's flows after it
+pub turn_sums : (plan : PlanShape) (inputs : List Input) (jobs : List JobState) (shown : List (Arc NodeTable Global)) (item child next : ℕ) (lent : NodeTable) (sum new : Sum) → ShowsOthers plan inputs jobs shown →
+    IsTurn plan jobs shown item child next lent → IsSumFrom plan inputs jobs item next sum → new ≡ with_child lent.flows.value lent.flows.prev sum → IsSumFrom plan inputs jobs item child new
+turn_sums plan inputs jobs shown item child next lent sum new shows turn from is =
+    subst (λ (s : Sum). IsSumFrom plan inputs jobs item child s)
+    (sym (is ∙ ap (λ (t : Table). with_child t.value t.prev sum) (lent_table plan inputs jobs shown item child next lent shows turn)))
+    (sum_with_turn plan inputs jobs shown item child next lent sum shows turn from)
+
+-- and could take them
+pub turn_takes : (plan : PlanShape) (inputs : List Input) (jobs : List JobState) (shown : List (Arc NodeTable Global)) (item child next : ℕ) (lent : NodeTable) (sum : Sum) → length plan.parents ≤ 512 → ShowsOthers plan inputs jobs shown →
+    IsTurn plan jobs shown item child next lent → IsSumFrom plan inputs jobs item next sum → CanTake lent.flows.value lent.flows.prev sum
+turn_takes plan inputs jobs shown item child next lent sum few shows turn from =
+    subst (λ (t : Table). CanTake t.value t.prev sum) (sym (lent_table plan inputs jobs shown item child next lent shows turn))
+    (can_take plan inputs jobs item child child sum turn.behind turn.inside few shows.fits from.room (sum_with_turn plan inputs jobs shown item child next lent sum shows turn from))

@@ -1,8 +1,9 @@
 -- What holds of the parts of a round once a call changed them.
-use Rattle.std.proofs.Common.{◌≡◌, ◌∙◌, ap, sym, refl, subst, inl, inr, ℕ, zero, suc, ◌+◌, ◌-◌, ◌≤◌, ◌<◌, Bool, true, false, List, [], ◌∷◌, length, drop, get_or, Option, Some, None, arith}
+use Rattle.std.proofs.Common.{◌≡◌, ◌∙◌, ap, sym, refl, subst, inl, inr, ℕ, zero, suc, ◌+◌, ◌-◌, ◌≤◌, ◌<◌, Bool, true, false, List, [], ◌∷◌, ◌++◌, length, take, drop, get_or, Option, Some, None, arith, append-nil}
 use Rattle.std.specs.Prelude.{slice_set, IfSome, ℤ}
 use Rattle.std.specs.List.{All}
 use Rattle.std.proofs.lemmas.Bool.Decides.{nat_tests}
+use Rattle.std.proofs.lemmas.List.{drop_all, take_all}
 use Rattle.std.proofs.Math.ListN.{length-set}
 use Rattle.price_base.specs.declared.Cell.{Cell}
 use Rattle.series_tables.specs.Fits.{FitsPlan}
@@ -16,16 +17,18 @@ use Rattle.dirty_plan.specs.Round.{RoundShape, has_unfinished_child, is_ready, i
 use Rattle.dirty_plan.specs.declared.job.JobState.{JobState}
 use Rattle.dirty_plan.specs.declared.job.JobState.TheVariants.{Clean, Waiting, Out, Done}
 use Rattle.round_works.specs.Adding.{added_to, with_flows, CanAdd, CanAddTo}
-use Rattle.round_works.specs.Jobs.{ItemJob, job_of, job_after}
+use Rattle.round_works.specs.Jobs.{ItemJob, job_of, job_after, job_made}
 use Rattle.round_works.specs.Making.{AreParts, AreWorks, IsPartWork, IsWholeWork, values_after, volumes_after, work_at}
 use Rattle.round_works.specs.Sameness.{IsWork}
+use Rattle.round_works.specs.Tables.{shared_table}
 use Rattle.round_works.specs.Works.{ItemWork, item_work, table_after, table_of_work, work_after, work_in}
+use Rattle.round_works.specs.declared.work.Compiled.{Compiled}
 use Rattle.round_works.specs.declared.work.Work.{Work}
 use Rattle.round_works.specs.declared.work.Work.TheVariants.{Leaf, Inner}
 use Rattle.round_works.proofs.Bounds.{CanTake, can_take}
 use Rattle.round_works.proofs.Known.{known_after}
 use Rattle.round_works.proofs.States.{ready_waits, within_jobs, works_taken, works_back}
-use Rattle.round_works.proofs.Works.{part_done, unfinished_at, unfinished_own, works_done}
+use Rattle.round_works.proofs.Works.{added_length, part_done, unfinished_at, unfinished_own, works_done}
 
 -- an item's work is worth its table
 pub work_worth : (value_at : Kind → ℕ → ℕ → Option ℤ) (plan : PlanShape) (item : ℕ) → table_of_work plan.reference (item_work value_at plan item) ≡ item_table value_at plan item
@@ -53,6 +56,14 @@ parts_with plan inputs front round kept ready new_kept new_ready item state part
   items = length-set round.jobs item state ∙ parts.items;
   works = works;
 }
+
+-- the same parts, as they are told otherwise
+pub parts_as : (plan : PlanShape) (inputs : List Input) (front : ℕ) (round new_round : RoundShape) (kept ready new_kept new_ready : List (Option Work)) →
+    new_round ≡ round → new_kept ≡ kept → new_ready ≡ ready → AreParts plan inputs front round kept ready → AreParts plan inputs front new_round new_kept new_ready
+parts_as plan inputs front round new_round kept ready new_kept new_ready e_round e_kept e_ready parts =
+    subst (λ (r : RoundShape). AreParts plan inputs front r new_kept new_ready) (sym e_round)
+    (subst (λ (works : List (Option Work)). AreParts plan inputs front round works new_ready) (sym e_kept)
+    (subst (λ (works : List (Option Work)). AreParts plan inputs front round kept works) (sym e_ready) parts))
 
 -- what is ready by the parents that the round keeps is so by the plan's
 pub ready_in : (plan : PlanShape) (inputs : List Input) (front : ℕ) (round : RoundShape) (kept ready : List (Option Work)) (item : ℕ) → AreParts plan inputs front round kept ready →
@@ -139,3 +150,26 @@ can_add_to plan inputs front round kept ready item (Some p) parts is e smaller =
     let making = parts.works.in_making p (unfinished_own plan round.jobs p item smaller inside within own unfinished) in
     (can_add plan inputs round.jobs p item (work_at kept p) parts.few parts.fits smaller inside within own unfinished making.0,
      can_add plan inputs round.jobs p item (work_at ready p) parts.few parts.fits smaller inside within own unfinished making.1)
+
+-- what is made of an item's job is the item's table
+pub made_table : (plan : PlanShape) (inputs : List Input) (made : Compiled) → job_made made ≡ job_after plan inputs made.node → shared_table made.table ≡ table_after plan inputs made.node
+made_table plan inputs made is = made.worth ∙ ap (λ (job : ItemJob). table_of_work job.reference job.work) is ∙ work_worth (last_value inputs) plan made.node
+
+-- what a vector holds once its list was written
+written : {X : Type 0} (n : ℕ) (old new whole : List X) → n ≡ length old → new ≡ whole → length whole ≡ length old → take n (new ++ drop (length new) old) ≡ whole
+written n old new whole size is same =
+    let long : length new ≡ length old = ap length is ∙ same in
+    ap (λ l. take n (new ++ l)) (drop_all (length new) old (omega arith)) ∙ ap (take n) (append-nil new) ∙ take_all n new (omega arith) ∙ is
+
+-- the works of a parent once they were written with a child's flows
+pub written_flows : (plan : PlanShape) (inputs : List Input) (n item : ℕ) (parent : Option ℕ) (table : Table) (old lent new : List (Option Work)) → table ≡ table_after plan inputs item → n ≡ length old → lent ≡ old →
+    new ≡ added_to parent table.value table.prev lent → take n (new ++ drop (length new) old) ≡ added_to parent (values_after plan inputs item) (volumes_after plan inputs item) old
+written_flows plan inputs n item parent table old lent new is size same e =
+    written n old new (added_to parent (values_after plan inputs item) (volumes_after plan inputs item) old) size
+    (e ∙ ap (λ (l : List (Option Work)). added_to parent table.value table.prev l) same ∙ ap (λ (t : Table). added_to parent t.value t.prev old) is)
+    (added_length parent (values_after plan inputs item) (volumes_after plan inputs item) old)
+
+-- a job that is out is one of a plan's items
+pub out_within : (plan : PlanShape) (inputs : List Input) (front : ℕ) (round : RoundShape) (kept ready : List (Option Work)) (item : ℕ) → AreParts plan inputs front round kept ready → state_of round.jobs item ≡ Out →
+    item < length plan.names
+out_within plan inputs front round kept ready item parts is = omega (arith, within_jobs round.jobs item Out is refl, parts.items, parts.named)

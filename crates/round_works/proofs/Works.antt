@@ -86,7 +86,7 @@ behind : (item k : ℕ) → item < k → IsBehind item k
 behind item k before = record { place = k - suc item; is = omega arith }
 
 -- what stands at a place of what is made of a range
-get_made : {X : Type 0} (g : ℕ → X) (first count j : ℕ) → j < count → slice_get (map g (range_with_len first count)) j ≡ Some (g (first + j))
+pub get_made : {X : Type 0} (g : ℕ → X) (first count j : ℕ) → j < count → slice_get (map g (range_with_len first count)) j ≡ Some (g (first + j))
 get_made g first zero j below = absurd (omega arith)
 get_made g first (suc count) zero below = ap (λ (n : ℕ). Some (g n)) (let same : first ≡ first + 0 = omega arith in same)
 get_made g first (suc count) (suc j) below =
