@@ -1,8 +1,8 @@
 //! The jobs of a round.
 
 ghost use Rattle.std.specs.Prelude.{◌≡◌, ◌≤◌, ◌↔◌, length, IsTrue, IfOk};
-ghost use Rattle.dirty_plan.specs.Round.{IsLeast, has_flag, is_left, is_ready as is_ready_of, job_count, opened_round};
-ghost use Rattle.dirty_plan.specs.Round.{state_of, with_state};
+ghost use Rattle.dirty_plan.specs.Round.{IsLeast, has_flag, is_job as is_job_of, is_left, is_ready as is_ready_of};
+ghost use Rattle.dirty_plan.specs.Round.{job_count, opened_round, state_of, with_state};
 ghost use Rattle.dirty_plan.specs.Touched.{NamesLeaves};
 
 use crate::job::{JobState, is_job, is_unfinished};
@@ -56,6 +56,16 @@ impl PlanRound {
         ensures { result ≡ job_count self.now.jobs }
     {
         self.jobs.iter().filter(|state| is_job(**state)).count() as u16
+    }
+
+    /// Whether the item of a number has a job, done or not. A number that is no item's has none.
+    pub fn has_job(&self, node: u16) -> bool
+        ensures { result ≡ is_job_of (state_of self.now.jobs node) }
+    {
+        match self.jobs.get(node as usize) {
+            Some(state) => is_job(*state),
+            None => false,
+        }
     }
 
     /// The least item whose job can be taken: it waits, and no child of the item has an unfinished job. None where
