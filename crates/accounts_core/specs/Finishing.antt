@@ -1,0 +1,100 @@
+-- What finishing the rounds does, call by call, and what it takes.
+use Rattle.std.specs.Prelude.{◌≡◌, ◌≢◌, ℕ, ◌+◌, ◌<◌, ◌≤◌, IsFalse, List, [], ◌++◌, All, map, sum_by, if◌then◌else◌, Option, Some, None}
+use Rattle.std.specs.Option.{ForSome, IsSomeAnd, option_map}
+use Rattle.series_tables.specs.Plan.{PlanShape}
+use Rattle.dirty_plan.specs.Round.{is_left, is_unfinished, state_of}
+use Rattle.dirty_plan.specs.Touched.{is_touched_between, items_of}
+use Rattle.dirty_plan.specs.declared.job.JobState.{JobState}
+use Rattle.dirty_plan.specs.declared.job.JobState.TheVariants.{Out}
+use Rattle.accounts_history.specs.History.{inputs_of}
+use Rattle.accounts_history.specs.declared.entry.Entry.{Entry}
+use Rattle.accounts_history.specs.declared.entry.Entry.TheVariants.{Accept, Publish}
+use Rattle.round_works.specs.Rounds.{IsCopyOut, Round}
+use Rattle.round_works.specs.Works.{most_steps_of, work_after}
+use Rattle.round_works.specs.declared.work.Job.{Job}
+use Rattle.accounts_core.specs.State.{CoreState, accepted, inputs_to, published, with_round}
+
+-- an entry is a publication of a party
+abbrev pub IsPublicationOf : ℕ → Entry → Type 0
+IsPublicationOf party (Accept sender input) = ⊥
+IsPublicationOf party (Publish publisher front jobs) = publisher ≡ party
+
+-- nothing was added to a history but publications of a party
+abbrev pub HasOnlyPublished : ℕ → List Entry → List Entry → Type 0
+HasOnlyPublished party old new = (added : List Entry) × All (IsPublicationOf party) added × (new ≡ old ++ added)
+
+-- all that was accepted is published, and no round is open
+pub record IsFinished (state : CoreState) : Type 0 where
+  pub all : published state ≡ accepted state
+  pub closed : state.round ≡ None
+
+-- the most steps for an item after the inputs up to a front
+abbrev pub item_steps : CoreState → ℕ → ℕ → ℕ
+item_steps state front item = most_steps_of (work_after state.plan (inputs_to state front) item)
+
+-- the most steps of a round between two fronts: those of the items that the inputs between them touch
+abbrev pub steps_between : CoreState → ℕ → ℕ → ℕ
+steps_between state front later = sum_by (λ item.
+    if is_touched_between state.plan (inputs_of state.history) front later item then item_steps state later item else 0)
+    (items_of state.plan)
+
+-- the front up to which a round is compiled next: that of the open one, or all that was accepted
+abbrev pub front_ahead : CoreState → Option Round → ℕ
+front_ahead state None = accepted state
+front_ahead state (Some round) = round.front
+
+abbrev pub next_front : CoreState → ℕ
+next_front state = front_ahead state state.round
+
+-- the most steps of the rounds that are left: one up to the next front, and one from there up to all that was accepted
+abbrev pub steps_ahead : CoreState → ℕ
+steps_ahead state =
+    steps_between state (published state) (next_front state) + steps_between state (next_front state) (accepted state)
+
+-- one round was run to its end: what is published goes up to the front that was the next, and no round is open
+pub record IsRoundEnded (old new : CoreState) : Type 0 where
+  pub published : published new ≡ next_front old
+  pub closed : new.round ≡ None
+
+-- where the jobs of the open round stand
+abbrev pub jobs_in : Option Round → List JobState
+jobs_in None = []
+jobs_in (Some round) = round.jobs
+
+abbrev pub jobs_now : CoreState → List JobState
+jobs_now state = jobs_in state.round
+
+-- the core whose open round has these jobs
+abbrev pub with_jobs : CoreState → List JobState → CoreState
+with_jobs state jobs = with_round state (option_map (λ round. record { front = round.front; jobs = jobs }) state.round)
+
+-- a core is as it was but for where its jobs stand
+abbrev pub IsSameRound : CoreState → CoreState → Type 0
+IsSameRound old new = new ≡ with_jobs old (jobs_now new)
+
+-- no job is out; no job is left
+abbrev pub NoneOut : List JobState → Type 0
+NoneOut jobs = (item : ℕ) → state_of jobs item ≢ Out
+
+abbrev pub NoneLeft : List JobState → Type 0
+NoneLeft jobs = (item : ℕ) → IsFalse (is_left jobs item)
+
+-- the same items have a job that isn't done
+abbrev pub SameLeft : CoreState → CoreState → Type 0
+SameLeft old new = map is_unfinished (jobs_now new) ≡ map is_unfinished (jobs_now old)
+
+-- a job isn't out any more, and no other is that wasn't
+pub record IsBack (item : ℕ) (old new : List JobState) : Type 0 where
+  pub here : state_of new item ≢ Out
+  pub others : (other : ℕ) → state_of old other ≢ Out → state_of new other ≢ Out
+
+-- a copy of an item's job that is out now, or none where it isn't
+abbrev pub IsCopyOf : CoreState → ℕ → Option Job → Type 0
+IsCopyOf state item None = ForSome state.round (λ round. IsCopyOut state.plan (inputs_to state round.front) round item None)
+IsCopyOf state item (Some job) =
+    IsSomeAnd state.round (λ round. IsCopyOut state.plan (inputs_to state round.front) round item (Some job))
+
+-- the most steps of the jobs that aren't done
+abbrev pub steps_left : CoreState → ℕ
+steps_left state = sum_by (λ item. if is_left (jobs_now state) item then item_steps state (next_front state) item else 0)
+    (items_of state.plan)
