@@ -6,3 +6,7 @@ pub mod Beginning
 pub mod Handling
 pub mod Publishing
 pub mod Soundness
+pub mod Reaching
+pub mod Costs
+pub mod Running
+pub mod Ending

@@ -9,12 +9,6 @@ use Rattle.dirty_plan.specs.declared.job.JobState.{JobState}
 use Rattle.dirty_plan.specs.declared.job.JobState.TheVariants.{Clean}
 use Rattle.vintage_board.specs.Board.{put_over, staged_or}
 
--- one element more that passes a function as the one before changes nothing of what is made of all
-pub map_set : {X Y : Type 0} (f : X → Y) (xs : List X) (k : ℕ) (new d : X) → f new ≡ f (get_or xs k d) → map f (slice_set xs k new) ≡ map f xs
-map_set f [] k new d same = refl
-map_set {Y = Y} f (x ∷ xs) zero new d same = ap (λ (y : Y). y ∷ map f xs) same
-map_set {Y = Y} f (x ∷ xs) (suc k) new d same = ap (λ (ys : List Y). f x ∷ ys) (map_set f xs k new d same)
-
 -- what is there is within
 pub there : {X : Type 0} (xs : List X) (k : ℕ) (x : X) → slice_get xs k ≡ Some x → k < length xs
 there [] k x at = absurd (cc)

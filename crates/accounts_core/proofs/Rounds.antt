@@ -1,6 +1,7 @@
 -- What holds of the open round holds where the job of one item stands elsewhere.
 use Rattle.std.proofs.Common.{◌≡◌, ◌∙◌, ap, sym, subst, inl, inr, ℕ, ◌≤◌, ◌<◌, true, List, length, map, take, get_or, Option, Some, None, arith}
 use Rattle.std.proofs.Math.ListN.{length-set}
+use Rattle.std.proofs.Math.Seq.{map-set_same}
 use Rattle.std.proofs.lemmas.Bool.{cases_eq}
 use Rattle.std.proofs.lemmas.List.{get_or-set_same, get_or-set_other, length-take-le, length-take}
 use Rattle.std.specs.Prelude.{◌≢◌, slice_set}
@@ -19,7 +20,7 @@ use Rattle.round_works.specs.Rounds.{IsRoundOver, Round, round_in, with_job}
 use Rattle.round_works.specs.Tables.{shared_table}
 use Rattle.round_works.specs.declared.round.OpenRound.{OpenRound}
 use Rattle.accounts_core.specs.Kept.{AreTouched, IsKept, IsOpen, IsShown, IsStaged, Shared, staged_at}
-use Rattle.accounts_core.proofs.Lists.{map_set, within_jobs}
+use Rattle.accounts_core.proofs.Lists.{within_jobs}
 
 -- the front of an open round is at most the number of inputs
 pub front_within : (plan : PlanShape) (history : List Entry) (board : BoardOf Shared) (r : OpenRound) → IsOpen plan board.front (take (round_in r).front (inputs_of history)) board r
@@ -42,7 +43,7 @@ pub open_set : (plan : PlanShape) (published : ℕ) (inputs : List Input) (board
 open_set plan published inputs board next r new k state is_open set over same_job within staged_here staged_there = record {
   over = over;
   above = subst (λ (n : ℕ). published < n) (sym (ap (λ (o : Round). o.front) set)) is_open.above;
-  touched = subst (AreTouched plan published inputs) (sym jobs) (map_set is_job (round_in r).jobs k state Clean same_job ∙ is_open.touched);
+  touched = subst (AreTouched plan published inputs) (sym jobs) (map-set_same is_job (round_in r).jobs k state Clean same_job ∙ is_open.touched);
   staged = staged;
 }
   where

@@ -1,16 +1,16 @@
 -- What finishing the rounds does, call by call, and what it takes.
-use Rattle.std.specs.Prelude.{◌≡◌, ◌≢◌, ℕ, ◌+◌, ◌<◌, ◌≤◌, IsFalse, List, [], ◌++◌, All, map, sum_by, if◌then◌else◌, Option, Some, None}
+use Rattle.std.specs.Prelude.{◌≡◌, ◌≢◌, ℕ, ◌+◌, ◌<◌, ◌≤◌, Bool, true, false, IsFalse, IsTrue, List, [], ◌++◌, All, length, slice_set, sum_by, if◌then◌else◌, Option, Some, None}
 use Rattle.std.specs.Option.{ForSome, IsSomeAnd, option_map}
 use Rattle.series_tables.specs.Plan.{PlanShape}
-use Rattle.dirty_plan.specs.Round.{is_left, is_unfinished, state_of}
+use Rattle.dirty_plan.specs.Round.{is_left, is_ready, state_of}
 use Rattle.dirty_plan.specs.Touched.{is_touched_between, items_of}
 use Rattle.dirty_plan.specs.declared.job.JobState.{JobState}
-use Rattle.dirty_plan.specs.declared.job.JobState.TheVariants.{Out}
+use Rattle.dirty_plan.specs.declared.job.JobState.TheVariants.{Out, Done, Waiting}
 use Rattle.accounts_history.specs.History.{inputs_of}
 use Rattle.accounts_history.specs.declared.entry.Entry.{Entry}
 use Rattle.accounts_history.specs.declared.entry.Entry.TheVariants.{Accept, Publish}
 use Rattle.round_works.specs.Rounds.{IsCopyOut, Round}
-use Rattle.round_works.specs.Works.{most_steps_of, work_after}
+use Rattle.round_works.specs.Works.{most_steps_of, work_after, work_in}
 use Rattle.round_works.specs.declared.work.Job.{Job}
 use Rattle.accounts_core.specs.State.{CoreState, accepted, inputs_to, published, with_round}
 
@@ -19,9 +19,12 @@ abbrev pub IsPublicationOf : ℕ → Entry → Type 0
 IsPublicationOf party (Accept sender input) = ⊥
 IsPublicationOf party (Publish publisher front jobs) = publisher ≡ party
 
--- nothing was added to a history but publications of a party
-abbrev pub HasOnlyPublished : ℕ → List Entry → List Entry → Type 0
-HasOnlyPublished party old new = (added : List Entry) × All (IsPublicationOf party) added × (new ≡ old ++ added)
+-- a core has the same plan, and nothing was added to its history but publications of a party
+pub record HasOnlyPublished (party : ℕ) (old new : CoreState) : Type 0 where
+  pub plan : new.plan ≡ old.plan
+  pub added : List Entry
+  pub publications : All (IsPublicationOf party) added
+  pub history : new.history ≡ old.history ++ added
 
 -- all that was accepted is published, and no round is open
 pub record IsFinished (state : CoreState) : Type 0 where
@@ -79,10 +82,6 @@ NoneOut jobs = (item : ℕ) → state_of jobs item ≢ Out
 abbrev pub NoneLeft : List JobState → Type 0
 NoneLeft jobs = (item : ℕ) → IsFalse (is_left jobs item)
 
--- the same items have a job that isn't done
-abbrev pub SameLeft : CoreState → CoreState → Type 0
-SameLeft old new = map is_unfinished (jobs_now new) ≡ map is_unfinished (jobs_now old)
-
 -- a job isn't out any more, and no other is that wasn't
 pub record IsBack (item : ℕ) (old new : List JobState) : Type 0 where
   pub here : state_of new item ≢ Out
@@ -98,3 +97,29 @@ IsCopyOf state item (Some job) =
 abbrev pub steps_left : CoreState → ℕ
 steps_left state = sum_by (λ item. if is_left (jobs_now state) item then item_steps state (next_front state) item else 0)
     (items_of state.plan)
+
+-- the most steps of a job
+abbrev pub work_steps : Job → ℕ
+work_steps job = most_steps_of (work_in job.work)
+
+-- the core in whose round the job of an item stands elsewhere
+abbrev pub with_state_of : CoreState → ℕ → JobState → CoreState
+with_state_of state item job = with_jobs state (slice_set (jobs_now state) item job)
+
+-- one job that wasn't done is, and what its steps and those that are left come to hasn't grown
+pub record RunsItem (old new : CoreState) (before after : ℕ) : Type 0 where
+  pub item : ℕ
+  pub left : IsTrue (is_left (jobs_now old) item)
+  pub done : new ≡ with_state_of old item Done
+  pub steps : after + steps_left new ≤ before + steps_left old
+
+-- no job is ready, and nothing changed
+pub record RunsNothing (old new : CoreState) (before after : ℕ) : Type 0 where
+  pub none : (item : ℕ) → item < length (jobs_now old) → IsFalse (is_ready old.plan.parents (jobs_now old) item)
+  pub same : new ≡ old
+  pub steps : after ≡ before
+
+-- one job was run, or none is ready
+abbrev pub RunsOne : CoreState → Bool → CoreState → ℕ → ℕ → Type 0
+RunsOne old true new before after = RunsItem old new before after
+RunsOne old false new before after = RunsNothing old new before after

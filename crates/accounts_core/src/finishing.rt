@@ -1,11 +1,12 @@
 //! Rounds that are run to their end in a row, by one holder of the core.
 
-ghost use Rattle.std.specs.Prelude.{◌≡◌, ◌≤◌, ◌+◌, IfOk, OnOk, IsSome};
+ghost use Rattle.std.specs.Prelude.{◌≡◌, ◌≤◌, ◌+◌, IfOk, OnOk};
 ghost use Rattle.accounts_core.specs.Finishing.{HasOnlyPublished, IsBack, IsFinished, IsRoundEnded, IsSameRound};
-ghost use Rattle.accounts_core.specs.Finishing.{LeavesNone, NoneLeft, NoneOut, RunsOne, SameLeft, jobs_now};
-ghost use Rattle.accounts_core.specs.Finishing.{next_front, steps_ahead, steps_between, steps_left, work_steps};
+ghost use Rattle.accounts_core.specs.Finishing.{NoneLeft, NoneOut, RunsOne, jobs_now};
+ghost use Rattle.accounts_core.specs.Finishing.{next_front, steps_ahead, steps_between, steps_left, with_state_of, work_steps};
 ghost use Rattle.accounts_core.specs.Run.{Reaches};
-ghost use Rattle.accounts_core.specs.State.{IsOutNow, published as published_of, with_done};
+ghost use Rattle.accounts_core.specs.State.{IsOutNow, published as published_of};
+ghost use Rattle.dirty_plan.specs.declared.job.JobState.TheVariants.{Done};
 ghost use Rattle.round_works.specs.Jobs.{job_in};
 
 use crate::machine::Core;
@@ -20,7 +21,7 @@ impl Core {
     /// which its calls lead, and what is left can be finished later. A step is one joint of one sweep of the solver.
     pub fn finish<L: Ledger>(&mut self, steps: &mut Steps<L>) -> Result<(), Memory>
         ensures reached { Reaches self.old self.new }
-        ensures published { HasOnlyPublished 0 self.old.history self.new.history }
+        ensures published { HasOnlyPublished 0 self.old self.new }
         ensures finished { OnOk result (IsFinished self.new) }
         ensures steps { steps.new ≤ steps.old + steps_ahead self.old }
     {
@@ -32,7 +33,7 @@ impl Core {
 /// Runs the open round to its end, or else one up to all that was accepted, if there is anything to compile.
 fn finish_round<L: Ledger>(core: &mut Core, steps: &mut Steps<L>) -> Result<(), Memory>
     ensures reached { Reaches core.old core.new }
-    ensures published { HasOnlyPublished 0 core.old.history core.new.history }
+    ensures published { HasOnlyPublished 0 core.old core.new }
     ensures ended { OnOk result (IsRoundEnded core.old core.new) }
     ensures steps { steps.new ≤ steps.old
         + steps_between core.old (published_of core.old) (next_front core.old) }
@@ -40,8 +41,8 @@ fn finish_round<L: Ledger>(core: &mut Core, steps: &mut Steps<L>) -> Result<(), 
     if let Begin::Nothing(_) = core.begin()? {
         return Ok(());
     }
-    core.stays_sound();
     put_all_back(core)?;
+    core.stays_sound();
     run_jobs(core, steps)?;
     core.publish(0);
     Ok(())
@@ -51,7 +52,6 @@ fn finish_round<L: Ledger>(core: &mut Core, steps: &mut Steps<L>) -> Result<(), 
 fn put_all_back(core: &mut Core) -> Result<(), Memory>
     ensures reached { Reaches core.old core.new }
     ensures same { IsSameRound core.old core.new }
-    ensures left { SameLeft core.old core.new }
     ensures back { OnOk result (NoneOut (jobs_now core.new)) }
 {
     for node in 0..core.plan().len() {
@@ -65,7 +65,6 @@ fn put_all_back(core: &mut Core) -> Result<(), Memory>
 fn put_one_back(core: &mut Core, node: u16) -> Result<(), Memory>
     ensures reached { Reaches core.old core.new }
     ensures same { IsSameRound core.old core.new }
-    ensures left { SameLeft core.old core.new }
     ensures back { OnOk result (IsBack node (jobs_now core.old) (jobs_now core.new)) }
 {
     if let Some(job) = core.copy_out(node)? {
@@ -96,6 +95,7 @@ fn run_next<L: Ledger>(core: &mut Core, steps: &mut Steps<L>) -> Result<bool, Me
     ensures run { IfOk result (λ more. RunsOne core.old more core.new steps.old steps.new) }
     ensures steps { steps.new ≤ steps.old + steps_left core.old }
 {
+    core.stays_sound();
     match core.take() {
         Take::NoneReady => Ok(false),
         Take::Job(job) => {
@@ -110,7 +110,7 @@ fn run_job<L: Ledger>(core: &mut Core, job: Job, steps: &mut Steps<L>) -> Result
     requires { IsOutNow core.old (job_in job) }
     ensures reached { Reaches core.old core.new }
     ensures same { IsSameRound core.old core.new }
-    ensures done { OnOk result (core.new ≡ with_done core.old job.node) }
+    ensures done { OnOk result (core.new ≡ with_state_of core.old job.node Done) }
     ensures steps { steps.new ≤ steps.old + work_steps job }
 {
     match compile(core.alloc(), job, steps) {

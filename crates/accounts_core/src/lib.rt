@@ -2,14 +2,13 @@
 //! machine of steps without threads, which whoever holds it drives.
 #![tactic(auto)]
 
-// mod finishing;
+mod finishing;
 mod first;
 mod laws;
 mod machine;
 mod replies;
 
 pub use accounts_history::Entry;
-// pub use finishing::finish;
 pub use laws::untouched_items_keep_their_tables;
 pub use machine::Core;
 pub use replies::{Accept, Begin, Done, Publish, PutBack, Take};
