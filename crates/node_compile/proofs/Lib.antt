@@ -1,4 +1,7 @@
+pub mod Figures
 pub mod Items
+pub mod Leaves
+pub mod Links
 pub mod Outcomes
 pub mod Runs
 pub mod Sent

@@ -1,10 +1,10 @@
 -- Why a leaf's table is true to the values that were sent last.
-use Rattle.std.specs.Prelude.{◌≡◌, ◌↔◌, ℕ, ◌+◌, ◌*◌, ◌/◌, ◌≤◌, ◌<◌, ℤ, pos, negsuc, ◌+ℤ◌, ◌*ℤ◌, ◌≤ℤ◌, Bool, true, false, if◌then◌else◌, List, [], ◌∷◌, map, length, slice_get, EachIndex, All, Option, Some, None, IsSome, is_some, unsigned_abs}
+use Rattle.std.specs.Prelude.{◌≡◌, ◌↔◌, ℕ, ◌+◌, ◌*◌, ◌/◌, ◌≤◌, ◌<◌, ℤ, pos, negsuc, ◌+ℤ◌, ◌*ℤ◌, ◌≤ℤ◌, Bool, true, false, if◌then◌else◌, List, [], ◌∷◌, map, length, slice_get, All, Option, Some, None, IsSome, unsigned_abs}
 use Rattle.std.specs.List.{range_with_len, AllByRecursion}
 use Rattle.std.specs.Option.{option_map}
 use Rattle.std.proofs.lemmas.Int.{ints}
-use Rattle.std.proofs.Common.{refl, sym, ◌∙◌, ap, arith, zero, suc, get_or, subst, replicate, cond}
-use Rattle.std.proofs.lemmas.List.{length-map, length-replicate, get_or_past}
+use Rattle.std.proofs.Common.{refl, sym, ◌∙◌, ap, arith, zero, suc, get_or, subst}
+use Rattle.std.proofs.lemmas.List.{length-map, length-replicate}
 use Rattle.std.proofs.lemmas.List.FromFn.{get_or-map-range_with_len, length-map-range_with_len}
 use Rattle.std.proofs.lemmas.Option.{get_or_from_slice_get, slice_get_within}
 use Rattle.ratio_arith.proofs.Ring.{same_by_ring, var, num, ◌⊕◌, ◌⊗◌}
@@ -13,9 +13,7 @@ use Rattle.denton_parts.specs.Scale.{scale_of_years}
 use Rattle.denton_parts.specs.Years.{years_of, benchmarks_of}
 use Rattle.denton_parts.specs.declared.year.YearPart.{YearPart}
 use Rattle.denton_solve.specs.Sweeps.{multipliers_of}
-use Rattle.price_base.specs.declared.Cell.{Cell}
 use Rattle.price_base.specs.declared.Cell.TheVariants.{Value, Missing}
-use Rattle.price_base.specs.Cells.{cell_at}
 use Rattle.sum_rounding.specs.ShareOut.{sum_of}
 use Rattle.annual_overlap.specs.Table.{AreNumbersAddingTo}
 use Rattle.annual_overlap.specs.Years.{quarters_in}
@@ -28,7 +26,7 @@ use Rattle.series_tables.specs.declared.input.Kind.{Kind}
 use Rattle.series_tables.specs.declared.input.Kind.TheVariants.{Indicator, Benchmark, Price}
 use Rattle.node_compile.specs.Leaf.{benchmark_run, run_values, table_of_years, leaf_table}
 use Rattle.node_compile.specs.Release.{table_of_leaf, inner_table, values_of_leaves, volumes_of_leaves, item_table, item_tables}
-use Rattle.node_compile.specs.Sent.{IsBenchmarkedYear, IsBenchmarkOf, IsTrueTo, AreTrueTo}
+use Rattle.node_compile.specs.Sent.{IsBenchmarkOf, IsTrueTo, AreTrueTo}
 use Rattle.node_compile.specs.Table.{Table}
 use Rattle.node_compile.proofs.Items.{cells_count}
 use Rattle.node_compile.proofs.Runs.{run_each, run_count, years_count, years_benchmarks}

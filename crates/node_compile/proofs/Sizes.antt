@@ -1,11 +1,9 @@
 -- The sizes of a leaf's cells: what its volumes and its chain ask for.
-use Rattle.std.specs.Prelude.{◌≡◌, ℕ, ◌-◌, ◌++◌, ◌*◌, ◌/◌, ◌^◌, ◌≤◌, ◌<◌, ℤ, pos, ◌*ℤ◌, int_le, Bool, true, false, ◌&&◌, if◌then◌else◌, List, [], ◌∷◌, map, length, slice_index, unsigned_abs, All, EachIndex, Option, Some, None, IfSome}
+use Rattle.std.specs.Prelude.{◌≡◌, ℕ, ◌-◌, ◌++◌, ◌^◌, ◌≤◌, ◌<◌, ℤ, pos, ◌*ℤ◌, int_le, Bool, true, false, ◌&&◌, if◌then◌else◌, List, [], ◌∷◌, map, length, unsigned_abs, All, EachIndex, Option, Some, None, IfSome}
 use Rattle.std.specs.List.{range_with_len}
 use Rattle.std.proofs.Common.{refl, arith, sym, subst, get_or, zero, suc}
-use Rattle.std.proofs.Math.Nat.{mul-div-le, mul-le-mul_right, pow-le-pow_right}
 use Rattle.std.proofs.lemmas.List.Elements.{All-map, All-replicate}
 use Rattle.annual_overlap.specs.Years.{IsSizedCell}
-use Rattle.dual_cert.specs.Document.{AreQuarters, IsQuarterValue}
 use Rattle.price_base.specs.declared.Base.{Base}
 use Rattle.price_base.specs.declared.Cell.{Cell}
 use Rattle.price_base.specs.declared.Cell.TheVariants.{Missing, Value, NoBase, NoLink, Range}

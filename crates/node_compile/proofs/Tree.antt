@@ -1,5 +1,5 @@
 -- Inner items: the sum over an item's children among the items behind it, and the table that it gives.
-use Rattle.std.proofs.Common.{◌≡◌, ◌∙◌, ap, sym, refl, subst, inl, inr, ℕ, zero, suc, ◌+◌, ◌-◌, ◌*◌, ◌^◌, ◌<◌, ◌≤◌, ℤ, unsigned_abs, Bool, true, false, ◌||◌, not, cond, List, [], ◌∷◌, ◌++◌, length, map, take, drop, reverse, get_or, Option, None, arith, length-append, length-drop}
+use Rattle.std.proofs.Common.{◌≡◌, ◌∙◌, ap, sym, refl, subst, inl, inr, ℕ, zero, suc, ◌+◌, ◌-◌, ◌*◌, ◌^◌, ◌<◌, ◌≤◌, ℤ, unsigned_abs, Bool, true, false, ◌||◌, not, cond, List, [], ◌∷◌, ◌++◌, length, map, take, drop, reverse, get_or, Option, None, arith, drop-cons, length-append, length-drop}
 use Rattle.std.specs.Prelude.{nat_lt}
 use Rattle.std.specs.List.{All, list_any, flat_map, range_with_len, take_while, AllByRecursion, prefix_len}
 use Rattle.std.proofs.lemmas.Bool.{cases_lt}
@@ -33,7 +33,7 @@ use Rattle.node_compile.proofs.Items.{leaf_is_item}
 use Rattle.node_compile.proofs.Worth.{table_chained, leaf_chained}
 
 -- nothing is left past the end
-drop_past : {X : Type 0} (n : ℕ) (xs : List X) → length xs ≤ n → drop n xs ≡ []
+pub drop_past : {X : Type 0} (n : ℕ) (xs : List X) → length xs ≤ n → drop n xs ≡ []
 drop_past zero [] h = refl
 drop_past (suc n) [] h = refl
 drop_past zero (x ∷ xs) h = absurd (omega (arith, h))
@@ -61,7 +61,7 @@ sized_everywhere most cells sized t = elim (cases_lt t (length cells)) [
 ]
 
 -- the cells of a sum are within its sums
-cell_sized : (most : ℕ) (missing no_base range : Bool) (sum : ℤ) → unsigned_abs sum ≤ most → IsSizedCell most (cond missing Missing (cond no_base NoBase (cond range Range (Value sum))))
+pub cell_sized : (most : ℕ) (missing no_base range : Bool) (sum : ℤ) → unsigned_abs sum ≤ most → IsSizedCell most (cond missing Missing (cond no_base NoBase (cond range Range (Value sum))))
 cell_sized most true no_base range sum h = tt
 cell_sized most false true range sum h = tt
 cell_sized most false false true sum h = tt
@@ -115,7 +115,7 @@ nothing_behind most item first parents tallies past room sum =
     ]
 
 -- one more item behind, which is a child
-child_more : (most item first : ℕ) (parent : Option ℕ) (parents : List (Option ℕ)) (cells : List Cell) (lists : List (List Cell)) (tallies : List Tally) → is_parent item parent ≡ true → length cells ≤ 256
+pub child_more : (most item first : ℕ) (parent : Option ℕ) (parents : List (Option ℕ)) (cells : List Cell) (lists : List (List Cell)) (tallies : List Tally) → is_parent item parent ≡ true → length cells ≤ 256
     → AreItemCells most (length (leaves_of first (of_children first parents (leaves_from (suc first) parents)))) cells
     → IsSumBehind most item (suc first) parents lists tallies → IsSumBehind most item first (parent ∷ parents) (cells ∷ lists) (with_cells cells tallies)
 unfolding leaves_from
@@ -140,10 +140,29 @@ child_more most item first parent parents cells lists tallies own short cells_ar
         rw number (omega (arith, grown, both))
 
 -- one more item behind, which is none
-other_more : (most item first : ℕ) (parent : Option ℕ) (parents : List (Option ℕ)) (cells : List Cell) (lists : List (List Cell)) (tallies : List Tally) → is_parent item parent ≡ false
+pub other_more : (most item first : ℕ) (parent : Option ℕ) (parents : List (Option ℕ)) (cells : List Cell) (lists : List (List Cell)) (tallies : List Tally) → is_parent item parent ≡ false
     → IsSumBehind most item (suc first) parents lists tallies → IsSumBehind most item first (parent ∷ parents) (cells ∷ lists) tallies
 unfolding leaves_from
 other_more most item first parent parents cells lists tallies other before = record { room = before.room; sum = rw other before.sum; sizes = rw other before.sizes }
+
+-- the same in the items' order, for a loop from the last item to the first over a list for each item: a turn at a child, whose cells are added
+pub turn_at_child : (most item child : ℕ) (plan : PlanShape) (lists : List (List Cell)) (tallies : List Tally) → child < length plan.parents → child < length lists
+    → AreItemCells most (length (leaves_under plan child)) (get_or lists child []) → is_parent item (get_or plan.parents child None) ≡ true
+    → IsSumBehind most item (suc child) (drop (suc child) plan.parents) (drop (suc child) lists) tallies
+    → IsSumBehind most item child (drop child plan.parents) (drop child lists) (with_cells (get_or lists child []) tallies)
+turn_at_child most item child plan lists tallies inside listed known mine before =
+    rw (parents_from_item plan.parents child inside, drop-cons lists child [] listed)
+    (child_more most item child (get_or plan.parents child None) (drop (suc child) plan.parents) (get_or lists child []) (drop (suc child) lists) tallies mine known.few
+    (subst (λ (leaves : List ℕ). AreItemCells most (length leaves) (get_or lists child [])) (leaves_under_item plan child inside) known) before)
+
+-- and a turn at another item
+pub turn_at_other : (most item child : ℕ) (plan : PlanShape) (lists : List (List Cell)) (tallies : List Tally) → child < length plan.parents → child < length lists
+    → is_parent item (get_or plan.parents child None) ≡ false
+    → IsSumBehind most item (suc child) (drop (suc child) plan.parents) (drop (suc child) lists) tallies
+    → IsSumBehind most item child (drop child plan.parents) (drop child lists) tallies
+turn_at_other most item child plan lists tallies inside listed other before =
+    rw (parents_from_item plan.parents child inside, drop-cons lists child [] listed)
+    (other_more most item child (get_or plan.parents child None) (drop (suc child) plan.parents) (get_or lists child []) (drop (suc child) lists) tallies other before)
 
 -- the last of some first elements is the first from behind
 reverse_more : {X : Type 0} (xs : List X) (place : ℕ) (d : X) → place < length xs → reverse (take (suc place) xs) ≡ get_or xs place d ∷ reverse (take place xs)
@@ -267,7 +286,7 @@ cells_behind f g most value_at plan first behind last known k within =
     subst (λ (l : List Cell). AreItemCells most (length (leaves_under plan item)) l) (sym cells) (known item (last.known item (omega (arith, last.whole)) (omega (arith, last.whole))))
 
 -- an item's cells are the sums over the leaves under it, a leaf's own too
-cells_over_leaves : (g : Table → List Cell) (value_at : Kind → ℕ → ℕ → Option ℤ) (plan : PlanShape) (item : ℕ) → item < length plan.parents
+pub cells_over_leaves : (g : Table → List Cell) (value_at : Kind → ℕ → ℕ → Option ℤ) (plan : PlanShape) (item : ℕ) → item < length plan.parents
     → (is_leaf plan item ≡ true → All IsFlow (g (item_table value_at plan item)))
     → (is_leaf plan item ≡ false → g (item_table value_at plan item) ≡ added (map (λ leaf. g (table_of_leaf value_at plan.reference leaf)) (leaves_under plan item)))
     → g (item_table value_at plan item) ≡ added (map (λ leaf. g (table_of_leaf value_at plan.reference leaf)) (leaves_under plan item))
@@ -289,7 +308,7 @@ pub prev_over_leaves : (value_at : Kind → ℕ → ℕ → Option ℤ) (plan : 
 prev_over_leaves value_at plan leaves item inside known = cells_over_leaves (λ t. t.prev) value_at plan item inside (λ e. known.prev.flows) (λ e. rw e refl)
 
 -- so the cells of the items from one on are the sums over the leaves under each
-lists_over_leaves : (cells leaf_cells : ℕ → List Cell) (plan : PlanShape) (first count : ℕ) → first + count ≡ length plan.parents
+pub lists_over_leaves : (cells leaf_cells : ℕ → List Cell) (plan : PlanShape) (first count : ℕ) → first + count ≡ length plan.parents
     → ((item : ℕ) → first ≤ item → item < length plan.parents → cells item ≡ added (map leaf_cells (leaves_under plan item)))
     → map cells (range_with_len first count) ≡ map (λ leaves. added (map leaf_cells leaves)) (leaves_from first (drop first plan.parents))
 unfolding leaves_from
@@ -312,12 +331,12 @@ lists_behind f g value_at plan first behind last =
     ∙ ap (λ (n : ℕ). map (λ item. g (item_table value_at plan item)) (range_with_len first n)) (length-map behind f)
 
 -- the leaves of lists of leaves
-leaf_lists : (leaf_cells : ℕ → List Cell) (lists : List (List ℕ)) → all_leaves (map (λ leaves. map leaf_cells leaves) lists) ≡ map leaf_cells (flat_map (λ leaves. leaves) lists)
+pub leaf_lists : (leaf_cells : ℕ → List Cell) (lists : List (List ℕ)) → all_leaves (map (λ leaves. map leaf_cells leaves) lists) ≡ map leaf_cells (flat_map (λ leaves. leaves) lists)
 leaf_lists leaf_cells [] = refl
 leaf_lists leaf_cells (leaves ∷ lists) =
     ap (λ (ls : List (List Cell)). map leaf_cells leaves ++ ls) (leaf_lists leaf_cells lists) ∙ sym (map-append leaf_cells leaves (flat_map (λ l. l) lists))
 
-lists_have_leaves : (leaf_cells : ℕ → List Cell) (lists : List (List ℕ)) → AllByRecursion (λ leaves. 0 < length leaves) lists → All HasLeaf (map (λ leaves. map leaf_cells leaves) lists)
+pub lists_have_leaves : (leaf_cells : ℕ → List Cell) (lists : List (List ℕ)) → AllByRecursion (λ leaves. 0 < length leaves) lists → All HasLeaf (map (λ leaves. map leaf_cells leaves) lists)
 lists_have_leaves leaf_cells [] each k d below = absurd (omega arith)
 lists_have_leaves leaf_cells (leaves ∷ lists) each zero d below = omega (arith, each.0, length-map leaves leaf_cells)
 lists_have_leaves leaf_cells (leaves ∷ lists) each (suc k) d below = lists_have_leaves leaf_cells lists each.1 k d (omega arith)

@@ -24,6 +24,7 @@ use Rattle.annual_overlap.proofs.Laws.{chain_within_drift, chain_adds_up}
 use Rattle.annual_overlap.specs.Table.{chain_of}
 use Rattle.node_compile.specs.Table.{Certificate}
 use Rattle.node_compile.specs.Leaf.{missing, certificate_of, benchmark_run, run_values, chained_table, table_of_years, leaf_table}
+use Rattle.node_compile.proofs.Links.{chain_linked}
 use Rattle.node_compile.proofs.Runs.{run_each, run_count, years_count, years_benchmarks}
 
 -- what follows the benchmarked years changes nothing
@@ -124,7 +125,12 @@ table_made indicators prices benchmarks reference k u x gap (year ∷ years) val
 
 -- a table that has a chain is truly chained
 pub table_chained : (leaf : Option Certificate) (value prev : List Cell) (reference : ℕ) → IsTrulyChained reference (chained_table leaf value prev reference)
-table_chained leaf value prev reference = (chain_within_drift (chain_of value prev reference) value prev reference refl, chain_adds_up (chain_of value prev reference) value prev reference refl)
+table_chained leaf value prev reference = record {
+  own = refl;
+  levels = chain_linked value prev reference;
+  near = chain_within_drift (chain_of value prev reference) value prev reference refl;
+  quarters = chain_adds_up (chain_of value prev reference) value prev reference refl;
+}
 
 -- so is a leaf's
 years_chained : (indicators : List ℕ) (prices : List (Option ℕ)) (benchmarks : List ℤ) (reference : ℕ) (years : List YearPart) → IsTrulyChained reference (table_of_years indicators prices benchmarks reference years)

@@ -4,4 +4,5 @@ pub mod Leaf
 pub mod Release
 pub mod Sent
 pub mod Shape
+pub mod Sizes
 pub mod Table

@@ -1,29 +1,37 @@
 -- The compilation from scratch: the table of each item, from the last values of what was sent.
-use Rattle.std.specs.Prelude.{ℕ, ◌-◌, ◌*◌, ◌/◌, ℤ, List, map, sum, length, if◌then◌else◌, Option, None, unsigned_abs}
-use Rattle.std.specs.List.{range_with_len}
+use Rattle.std.specs.Prelude.{◌≡◌, ℕ, ◌*◌, ◌/◌, ℤ, List, map, sum, length, if◌then◌else◌, Option, None, Result, IfOk, unsigned_abs}
+use Rattle.std.specs.List.{All, range_with_len}
 use Rattle.std.specs.Option.{option_map}
-use Rattle.std.specs.Arc.{arc_value}
 use Rattle.aggregate_tree.specs.Leaves.{added}
 use Rattle.price_base.specs.declared.Cell.{Cell}
-use Rattle.series_tables.specs.Cells.{cells_from}
+use Rattle.series_tables.specs.Cells.{Rows, cell, cells_from}
 use Rattle.series_tables.specs.LastValue.{run_of, last_value}
 use Rattle.series_tables.specs.Plan.{PlanShape, is_leaf}
 use Rattle.series_tables.specs.Tree.{leaves_under}
 use Rattle.series_tables.specs.declared.input.Input.{Input}
 use Rattle.series_tables.specs.declared.input.Kind.{Kind}
 use Rattle.series_tables.specs.declared.input.Kind.TheVariants.{Indicator, Benchmark, Price}
-use Rattle.node_compile.specs.Leaf.{benchmark_run, leaf_table, chained_table}
-use Rattle.node_compile.specs.Table.{Table, table_in}
+use Rattle.node_compile.specs.Leaf.{joints_in, leaf_table, chained_table}
+use Rattle.node_compile.specs.Table.{Table, node_tables}
 use Rattle.node_compile.specs.declared.release.Release.{Release}
 
--- the table of a leaf, from what stands at each kind, leaf and period: the run of its indicators, the prices of the run's quarters, and the benchmarks of its
--- whole years
+-- the prices of the quarters of a leaf's run, and the benchmarks of its whole years
+abbrev pub prices_of : (Kind → ℕ → ℕ → Option ℤ) → ℕ → List (Option ℕ)
+prices_of value_at leaf =
+    map (option_map unsigned_abs) (cells_from (value_at Price leaf) (length (run_of (value_at Indicator leaf))) 0)
+
+abbrev pub whole_benchmarks : (Kind → ℕ → ℕ → Option ℤ) → ℕ → List (Option ℤ)
+whole_benchmarks value_at leaf = cells_from (value_at Benchmark leaf) (length (run_of (value_at Indicator leaf)) / 4) 0
+
+-- the table of a leaf, from what stands at each kind, leaf and period: the run of its indicators, the prices of the
+-- run's quarters, and the benchmarks of its whole years
 abbrev pub table_of_leaf : (Kind → ℕ → ℕ → Option ℤ) → ℕ → ℕ → Table
 table_of_leaf value_at reference leaf =
-    leaf_table (map unsigned_abs (run_of (value_at Indicator leaf))) (map (option_map unsigned_abs) (cells_from (value_at Price leaf) (length (run_of (value_at Indicator leaf))) 0)) (cells_from (value_at Benchmark leaf) (length (run_of (value_at Indicator leaf)) / 4) 0) reference
+    leaf_table (map unsigned_abs (run_of (value_at Indicator leaf))) (prices_of value_at leaf)
+    (whole_benchmarks value_at leaf) reference
 
--- the table of an inner item: its values and its volumes at previous-year prices are the sums of those of the leaves under it, quarter by quarter, and its
--- chain is that of these sums. Chained volumes are not added up
+-- the table of an inner item: its values and its volumes at previous-year prices are the sums of those of the leaves
+-- under it, quarter by quarter, and its chain is that of these sums. Chained volumes are not added up
 abbrev pub inner_table : List (List Cell) → List (List Cell) → ℕ → Table
 inner_table values volumes reference = chained_table None (added values) (added volumes) reference
 
@@ -38,12 +46,13 @@ volumes_of_leaves value_at reference leaves = map (λ leaf. (table_of_leaf value
 abbrev pub item_table : (Kind → ℕ → ℕ → Option ℤ) → PlanShape → ℕ → Table
 item_table value_at plan item =
     if is_leaf plan item then table_of_leaf value_at plan.reference item
-    else inner_table (values_of_leaves value_at plan.reference (leaves_under plan item)) (volumes_of_leaves value_at plan.reference (leaves_under plan item)) plan.reference
+    else inner_table (values_of_leaves value_at plan.reference (leaves_under plan item))
+    (volumes_of_leaves value_at plan.reference (leaves_under plan item)) plan.reference
 
 -- the number of an item's joints: one fewer than its benchmarked years, and none for an inner item
 abbrev pub joints_of : (Kind → ℕ → ℕ → Option ℤ) → PlanShape → ℕ → ℕ
 joints_of value_at plan item =
-    if is_leaf plan item then length (benchmark_run (cells_from (value_at Benchmark item) (length (run_of (value_at Indicator item)) / 4) 0)) - 1 else 0
+    if is_leaf plan item then joints_in (whole_benchmarks value_at item) else 0
 
 -- the most steps that the solver takes for the items of a plan: 192 a joint
 abbrev pub most_steps : (Kind → ℕ → ℕ → Option ℤ) → PlanShape → ℕ
@@ -53,10 +62,29 @@ most_steps value_at plan = sum (map (λ item. 192 * joints_of value_at plan item
 abbrev pub item_tables : (Kind → ℕ → ℕ → Option ℤ) → PlanShape → List Table
 item_tables value_at plan = map (item_table value_at plan) (range_with_len 0 (length plan.names))
 
--- the compilation of a list of inputs: each item's table from the last values of the whole list, chained from the plan's reference year
+-- the compilation of a list of inputs: each item's table from the last values of the whole list, chained from the
+-- plan's reference year
 unfoldable pub compilation : PlanShape → List Input → List Table
 compilation plan inputs = item_tables (last_value inputs) plan
 
 -- the tables that a release shows, item by item
 abbrev pub tables_in : Release → List Table
-tables_in release = map (λ node. table_in (arc_value node)) release.nodes.items
+tables_in release = node_tables release.nodes.items
+
+-- what holds of each table that it shows
+abbrev pub EachTable : (Table → Type 0) → Release → Type 0
+EachTable P release = All P (tables_in release)
+
+-- a release, once it is made, shows these tables; want of memory says nothing
+abbrev pub Shows : {E : Type 0} → Result Release E → List Table → Type 0
+Shows result tables = IfOk result (λ release. tables_in release ≡ tables)
+
+-- the cells of tables are the last values of these inputs
+abbrev pub HoldLastValues : Rows → List Input → Type 0
+HoldLastValues rows inputs =
+    (kind : Kind) (leaf period : ℕ) → cell rows kind leaf period ≡ last_value inputs kind leaf period
+
+-- a release is the compilation from scratch of any inputs whose last values the tables hold
+abbrev pub IsCompiledFrom : PlanShape → Rows → Release → Type 0
+IsCompiledFrom plan rows release = (given : List Input) →
+    HoldLastValues rows given → tables_in release ≡ compilation plan given

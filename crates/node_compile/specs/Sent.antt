@@ -1,5 +1,6 @@
--- What a leaf's table has to do with the values that were sent last, in words that name no solver: its run, its benchmarked years, and the benchmarks that its
--- values add up to (IMF Quarterly National Accounts Manual 2017, chapter 6).
+-- What a leaf's table has to do with the values that were sent last, in words that name no solver: its run, its
+-- benchmarked years, and the benchmarks that its values add up to (IMF Quarterly National Accounts Manual 2017, chapter
+-- 6).
 use Rattle.std.specs.Prelude.{◌≡◌, ◌↔◌, ℕ, ◌+◌, ◌*◌, ◌≤◌, ℤ, pos, true, List, map, length, slice_get, Option, Some, IsSome, IfSome}
 use Rattle.annual_overlap.specs.Table.{AreNumbersAddingTo}
 use Rattle.annual_overlap.specs.Years.{quarters_in}
@@ -9,7 +10,8 @@ use Rattle.series_tables.specs.declared.input.Kind.{Kind}
 use Rattle.series_tables.specs.declared.input.Kind.TheVariants.{Indicator, Benchmark}
 use Rattle.node_compile.specs.Table.{Table}
 
--- a year of a leaf is benchmarked where it and each year before it have a benchmark, and its four quarters are in the run
+-- a year of a leaf is benchmarked where it and each year before it have a benchmark, and its four quarters are in the
+-- run
 abbrev pub IsBenchmarkedYear : (Kind → ℕ → ℕ → Option ℤ) → ℕ → ℕ → Type 0
 IsBenchmarkedYear value_at leaf y =
     ((z : ℕ) → z ≤ y → IsSome (value_at Benchmark leaf z)) × (4 * y + 4 ≤ length (run_of (value_at Indicator leaf)))

@@ -1,6 +1,8 @@
 -- What an item's table says, as plain numbers and cells.
-use Rattle.std.specs.Prelude.{ℕ, ℤ, List, Option}
+use Rattle.std.specs.Prelude.{◌≡◌, ℕ, ℤ, List, map, Option, Result, IfOk}
+use Rattle.std.specs.Arc.{arc_value}
 use Rattle.std.specs.Option.{option_map}
+use Rattle.std.specs.declared.sync.Arc.{Arc}
 use Rattle.annual_overlap.specs.declared.ChainTable.{ChainTable}
 use Rattle.price_base.specs.declared.Cell.{Cell}
 use Rattle.node_compile.specs.declared.table.LeafPart.{LeafPart}
@@ -14,7 +16,8 @@ pub record Certificate : Type 0 where
   pub multipliers : List ℤ
   pub gap : ℤ
 
--- an item's table: the certificate of a leaf that has a benchmarked year, the values, the volumes at previous-year prices, and their chain
+-- an item's table: the certificate of a leaf that has a benchmarked year, the values, the volumes at previous-year
+-- prices, and their chain
 pub record Table : Type 0 where
   pub leaf : Option Certificate
   pub value : List Cell
@@ -23,7 +26,29 @@ pub record Table : Type 0 where
 
 -- what the code's table says
 abbrev pub certificate_in : LeafPart → Certificate
-certificate_in part = record { indicators = part.ind.items; benchmarks = part.bench.items; scale = part.cert.scale; multipliers = part.cert.u.items; gap = part.cert.gap }
+certificate_in part = record {
+  indicators = part.ind.items;
+  benchmarks = part.bench.items;
+  scale = part.cert.scale;
+  multipliers = part.cert.u.items;
+  gap = part.cert.gap;
+}
+
+abbrev pub leaf_in : Option LeafPart → Option Certificate
+leaf_in leaf = option_map certificate_in leaf
 
 abbrev pub table_in : NodeTable → Table
-table_in table = record { leaf = option_map certificate_in table.leaf; value = table.flows.value; prev = table.flows.prev; chain = table.chain }
+table_in table = record {
+  leaf = leaf_in table.leaf;
+  value = table.flows.value;
+  prev = table.flows.prev;
+  chain = table.chain;
+}
+
+-- what shared tables say
+abbrev pub node_tables : {Z : Type 0} → List (Arc NodeTable Z) → List Table
+node_tables nodes = map (λ node. table_in (arc_value node)) nodes
+
+-- a table, once it is made, says what this one says; want of memory says nothing
+abbrev pub Makes : {E : Type 0} → Result NodeTable E → Table → Type 0
+Makes result table = IfOk result (λ made. table_in made ≡ table)

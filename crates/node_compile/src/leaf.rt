@@ -1,11 +1,9 @@
 //! The table of one leaf.
 
-ghost use Rattle.std.specs.Prelude.{◌≡◌, ◌≤◌, ◌<◌, ◌+◌, ◌-◌, ◌*◌, ◌^◌, pos, map, length, drop, ◌++◌, IfOk, EachIndex, All, slice_index, slice_index_or, ◌∷◌, unsigned_abs};
-ghost use Rattle.std.specs.Option.{ForSome, option_map};
-ghost use Rattle.annual_overlap.specs.Years.{IsSizedCell};
+ghost use Rattle.std.specs.Prelude.{◌≡◌, ◌≤◌, ◌<◌, ◌+◌, ◌-◌, ◌*◌, pos, map, length, IfOk, EachIndex, All, slice_index, slice_index_or, ◌∷◌};
 ghost use Rattle.denton_parts.specs.Scale.{scale_of_years};
 ghost use Rattle.denton_parts.specs.Year.{IsIndicator, IsBenchmark, IsMultiplier};
-ghost use Rattle.denton_parts.specs.Years.{year_of, years_of, indicators_of};
+ghost use Rattle.denton_parts.specs.Years.{years_of};
 ghost use Rattle.denton_solve.specs.Conditions.{AreMultipliers};
 ghost use Rattle.denton_solve.specs.Sweeps.{multipliers_of};
 ghost use Rattle.dual_cert.specs.Document.{AreQuarters};
@@ -14,9 +12,9 @@ ghost use Rattle.price_base.specs.declared.Cell.TheVariants.{Value};
 ghost use Rattle.price_base.specs.Volumes.{volumes_of};
 ghost use Rattle.series_tables.specs.Ranges.{IsBenchmarkOrNone, IsPositiveOrNone};
 ghost use Rattle.node_compile.specs.Laws.{MeetsItsBenchmarks, IsWithinItsGap};
-ghost use Rattle.node_compile.specs.Leaf.{benchmark_run, run_values, missing_table as missing_table_of, chained_table, table_of_years, leaf_table};
-ghost use Rattle.node_compile.specs.Shape.{IsBenchmarked};
-ghost use Rattle.node_compile.specs.Table.{certificate_in, table_in};
+ghost use Rattle.node_compile.specs.Leaf.{AreBenchmarks, AreFirstQuarters, benchmark_run, joints_in, year_from, run_values, missing_table as missing_table_of, table_of_years, leaf_table};
+ghost use Rattle.node_compile.specs.Sizes.{AreBelow, AreLeafValues, AreLeafVolumes};
+ghost use Rattle.node_compile.specs.Table.{Makes, table_in};
 
 use crate::chaining::chained;
 use crate::table::{LeafPart, NodeTable};
@@ -31,26 +29,27 @@ use series_tables::LeafInput;
 use std::alloc::Global;
 use std::sync::ledger::Ledger;
 
-/// The table of a leaf. Its benchmarked years are those before the first year without a benchmark; their values are the benchmarked series, and the
-/// quarters past them carry its last ratio forward. Without a benchmarked year all values are missing. The volumes are those of the values at the
-/// average price of the year before, and the chain starts in `reference`, which is counted from the first year of the run. The values meet the
-/// benchmarks, and no series that meets them is better by more than the table's gap. Values are below 10^24 in size, volumes within 10^15. A step is one
-/// joint of one sweep of the solver.
+/// The table of a leaf. Its benchmarked years are those before the first year without a benchmark; their values are the
+/// benchmarked series, and the quarters past them carry its last ratio forward. Without a benchmarked year all values
+/// are missing. The volumes are those of the values at the average price of the year before, and the chain starts in
+/// `reference`, which is counted from the first year of the run. The values meet the benchmarks, and no series that
+/// meets them is better by more than the table's gap. Values are below 10^24 in size, volumes within 10^15. A step is
+/// one joint of one sweep of the solver.
 pub fn compile_leaf<L: Ledger>(
     alloc: Global,
     input: &LeafInput,
     reference: Year,
     steps: &mut Steps<L>,
 ) -> Result<NodeTable, Memory>
-    ensures table { IfOk result (λ table. table_in table ≡
-        leaf_table input.now.ind.items input.now.price.items input.now.bench.items reference.0) }
+    ensures table { Makes result
+        (leaf_table input.now.ind.items input.now.price.items input.now.bench.items reference.0) }
     ensures quarters { IfOk result (λ table.
         length table.flows.value ≡ length input.now.ind.items) }
     ensures meets { IfOk result (λ table. MeetsItsBenchmarks (table_in table)) }
     ensures within { IfOk result (λ table. IsWithinItsGap (table_in table)) }
-    ensures value_sizes { IfOk result (λ table. All (IsSizedCell (10 ^ 24 - 1)) table.flows.value) }
-    ensures volume_sizes { IfOk result (λ table. All (IsSizedCell (10 ^ 15)) table.flows.prev) }
-    ensures steps { steps.new ≤ steps.old + 192 * (length (benchmark_run input.now.bench.items) - 1) }
+    ensures value_sizes { IfOk result (λ table. AreLeafValues table.flows.value) }
+    ensures volume_sizes { IfOk result (λ table. AreLeafVolumes table.flows.prev) }
+    ensures steps { steps.new ≤ steps.old + 192 * joints_in input.now.bench.items }
 {
     let bench = benchmarks_of(alloc, &input.bench)?;
     if bench.is_empty() {
@@ -65,7 +64,7 @@ fn benchmarks_of(alloc: Global, bench: &[Option<i64>]) -> Result<Vec<i64>, Memor
     requires range { All IsBenchmarkOrNone bench.now }
     ensures run { IfOk result (λ run. run.items ≡ benchmark_run bench.now) }
     ensures most { IfOk result (λ run. length run.items ≤ length bench.now) }
-    ensures range { IfOk result (λ run. EachIndex run.items (λ year. IsBenchmark (slice_index_or run.items year (pos 0)))) }
+    ensures range { IfOk result (λ run. AreBenchmarks run.items) }
 {
     let mut run = Vec::with_capacity(alloc, bench.len())?;
     for benchmark in bench {
@@ -80,10 +79,10 @@ fn benchmarks_of(alloc: Global, bench: &[Option<i64>]) -> Result<Vec<i64>, Memor
 // The table of a leaf without a benchmarked year.
 fn missing_table(alloc: Global, quarters: usize, reference: Year) -> Result<NodeTable, Memory>
     requires { quarters ≤ 256 }
-    ensures table { IfOk result (λ table. table_in table ≡ missing_table_of quarters reference.0) }
+    ensures table { Makes result (missing_table_of quarters reference.0) }
     ensures quarters { IfOk result (λ table. length table.flows.value ≡ quarters) }
-    ensures value_sizes { IfOk result (λ table. All (IsSizedCell (10 ^ 24 - 1)) table.flows.value) }
-    ensures volume_sizes { IfOk result (λ table. All (IsSizedCell (10 ^ 15)) table.flows.prev) }
+    ensures value_sizes { IfOk result (λ table. AreLeafValues table.flows.value) }
+    ensures volume_sizes { IfOk result (λ table. AreLeafVolumes table.flows.prev) }
 {
     let value = vec![in alloc; Cell::Missing; quarters]?;
     let prev = vec![in alloc; Cell::Missing; quarters]?;
@@ -104,14 +103,14 @@ fn benchmarked_table<L: Ledger>(
     requires whole_years { 4 * length bench.items ≤ length ind.items }
     requires few { length ind.items ≤ 256 }
     requires indicators { EachIndex ind.items (λ t. IsIndicator (slice_index ind.items t)) }
-    requires benchmarks { EachIndex bench.items (λ year. IsBenchmark (slice_index_or bench.items year (pos 0))) }
+    requires benchmarks { AreBenchmarks bench.items }
     requires as_many_prices { length prices.now ≡ length ind.items }
     requires prices { All IsPositiveOrNone prices.now }
-    ensures table { IfOk result (λ table. table_in table ≡
-        table_of_years ind.items prices.now bench.items reference.0 (years_of ind.items bench.items)) }
+    ensures table { Makes result
+        (table_of_years ind.items prices.now bench.items reference.0 (years_of ind.items bench.items)) }
     ensures quarters { IfOk result (λ table. length table.flows.value ≡ length ind.items) }
-    ensures value_sizes { IfOk result (λ table. All (IsSizedCell (10 ^ 24 - 1)) table.flows.value) }
-    ensures volume_sizes { IfOk result (λ table. All (IsSizedCell (10 ^ 15)) table.flows.prev) }
+    ensures value_sizes { IfOk result (λ table. AreLeafValues table.flows.value) }
+    ensures volume_sizes { IfOk result (λ table. AreLeafVolumes table.flows.prev) }
     ensures steps { steps.new ≤ steps.old + 192 * (length bench.items - 1) }
 {
     let parts = years_from(alloc, &ind, &bench)?;
@@ -129,11 +128,11 @@ fn years_from(alloc: Global, ind: &[u32], bench: &[i64]) -> Result<Vec<YearPart>
     requires whole_years { 4 * length bench.now ≤ length ind.now }
     requires few { length ind.now ≤ 256 }
     requires indicators { EachIndex ind.now (λ t. IsIndicator (slice_index ind.now t)) }
-    requires benchmarks { EachIndex bench.now (λ year. IsBenchmark (slice_index_or bench.now year (pos 0))) }
+    requires benchmarks { AreBenchmarks bench.now }
     ensures years { IfOk result (λ years. years.items ≡ years_of ind.now bench.now) }
     ensures count { IfOk result (λ years. length years.items ≡ length bench.now) }
     ensures begins { IfOk result (λ years. BeginsWithYears years.items ind.now) }
-    ensures indicators { IfOk result (λ years. indicators_of years.items ++ drop (4 * length years.items) ind.now ≡ ind.now) }
+    ensures indicators { IfOk result (λ years. AreFirstQuarters years.items ind.now) }
 {
     let mut years = Vec::with_capacity(alloc, bench.len())?;
     for year in 0..bench.len() {
@@ -149,7 +148,7 @@ fn year_at(ind: &[u32], benchmark: i64, first: usize) -> YearPart
     requires few { length ind.now ≤ 256 }
     requires indicators { EachIndex ind.now (λ t. IsIndicator (slice_index ind.now t)) }
     requires benchmark { IsBenchmark benchmark }
-    ensures { result ≡ year_of (slice_index ind.now first) (slice_index ind.now (first + 1)) (slice_index ind.now (first + 2)) (slice_index ind.now (first + 3)) benchmark }
+    ensures { result ≡ year_from ind.now first benchmark }
 {
     YearPart::of(
         [ind[first], ind[first + 1], ind[first + 2], ind[first + 3]],
@@ -195,10 +194,10 @@ fn values_of(
     requires whole_years { 4 * length parts.now ≤ length ind.now }
     requires few { length ind.now ≤ 256 }
     requires indicators { EachIndex ind.now (λ t. IsIndicator (slice_index ind.now t)) }
-    requires years { indicators_of parts.now ++ drop (4 * length parts.now) ind.now ≡ ind.now }
-    ensures values { IfOk result (λ values. values.items ≡ run_values scale parts.now u.now ind.now) }
+    requires years { AreFirstQuarters parts.now ind.now }
+    ensures values { IfOk result (λ out. out.items ≡ run_values scale parts.now u.now ind.now) }
     ensures quarters { IfOk result (λ values. AreQuarters scale ind.now values.items) }
-    ensures sizes { IfOk result (λ values. All (λ value. unsigned_abs value < 10 ^ 24) values.items) }
+    ensures sizes { IfOk result (λ values. AreBelow values.items) }
 {
     let mut values = vec![in alloc; 0; ind.len()]?;
     write_values(parts, scale, u, ind, &mut values);
@@ -215,11 +214,11 @@ fn write_values(parts: &[YearPart], scale: u8, u: &[i128], ind: &[u32], out: &mu
     requires whole_years { 4 * length parts.now ≤ length ind.now }
     requires few { length ind.now ≤ 256 }
     requires indicators { EachIndex ind.now (λ t. IsIndicator (slice_index ind.now t)) }
-    requires years { indicators_of parts.now ++ drop (4 * length parts.now) ind.now ≡ ind.now }
+    requires years { AreFirstQuarters parts.now ind.now }
     requires room { length out.old ≡ length ind.now }
     ensures values { out.new ≡ run_values scale parts.now u.now ind.now }
     ensures quarters { AreQuarters scale ind.now out.new }
-    ensures sizes { All (λ value. unsigned_abs value < 10 ^ 24) out.new }
+    ensures sizes { AreBelow out.new }
 {
     let years = parts.len();
     let (_, later) = ind.split_at(4 * years);
@@ -244,7 +243,7 @@ fn multiplier_before_last(u: &[i128]) -> i128
 // Values as an item's flows, with their volumes at these prices.
 fn flows_of(alloc: Global, values: &[i128], prices: &[Option<u32>]) -> Result<NodeFlows, Memory>
     requires few { length values.now ≤ 256 }
-    requires sizes { All (λ value. unsigned_abs value < 10 ^ 24) values.now }
+    requires sizes { AreBelow values.now }
     requires as_many_prices { length prices.now ≡ length values.now }
     requires prices { All IsPositiveOrNone prices.now }
     ensures value { IfOk result (λ flows. flows.value ≡ map Value values.now) }

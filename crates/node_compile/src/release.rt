@@ -1,19 +1,12 @@
 //! The tables of all items of a plan.
 
-ghost use Rattle.std.specs.Prelude.{◌≡◌, ◌≤◌, ◌<◌, ◌+◌, ◌-◌, ◌*◌, ◌^◌, ℕ, ℤ, [], true, false, not, suc, List, Option, None, length, map, drop, reverse, slice_index_or, IfOk, All, IsTrue};
-ghost use Rattle.std.specs.Arc.{arc_value};
-ghost use Rattle.std.specs.List.{list_any};
-ghost use Rattle.aggregate_tree.specs.Tallies.{IsSumOf};
+ghost use Rattle.std.specs.Prelude.{◌≡◌, ◌≤◌, ◌<◌, ◌+◌, ◌*◌, true, false, not, suc, None, length, slice_index_or, IfOk};
 ghost use Rattle.series_tables.specs.Cells.{cell};
-ghost use Rattle.series_tables.specs.LastValue.{last_value};
 ghost use Rattle.series_tables.specs.Plan.{is_parent, is_leaf};
-ghost use Rattle.series_tables.specs.Tree.{of_children, leaves_from, leaves_under};
-ghost use Rattle.series_tables.specs.declared.input.Input.{Input as InputOf};
-ghost use Rattle.series_tables.specs.declared.input.Kind.{Kind as KindOf};
-ghost use Rattle.node_compile.specs.Items.{AreItemCells, IsKnownItem, AreLastItems, IsSumBehind, node_value, node_prev};
+ghost use Rattle.node_compile.specs.Items.{AreLastItems, AreLastFlows, AreChildSums, IsKnownOf, MakesItem, has_child};
 ghost use Rattle.node_compile.specs.Laws.{MeetsItsBenchmarks, IsWithinItsGap, IsTrulyChained};
-ghost use Rattle.node_compile.specs.Release.{joints_of, most_steps, item_table, item_tables, compilation, tables_in};
-ghost use Rattle.node_compile.specs.Table.{table_in};
+ghost use Rattle.node_compile.specs.Release.{joints_of, most_steps, item_table, item_tables, tables_in, EachTable, Shows, IsCompiledFrom};
+ghost use Rattle.node_compile.specs.Table.{node_tables, Makes};
 
 use crate::inner::compile_inner;
 use crate::leaf::compile_leaf;
@@ -37,9 +30,10 @@ pub struct Release {
     pub nodes: Vec<Arc<NodeTable>>,
 }
 
-/// Compiles every item of the plan from the tables, which are the plan's: each leaf from its last values alone, and each inner item as the sum over the
-/// leaves under it, both chained from the plan's reference year. So the release is the compilation from scratch of any inputs that have these last values.
-/// A leaf's values meet its benchmarks within the gap, and every item's chained volumes are the products of its links up to the drift. `front` is passed on. A
+/// Compiles every item of the plan from the tables, which are the plan's: each leaf from its last values alone, and
+/// each inner item as the sum over the leaves under it, both chained from the plan's reference year. So the release is
+/// the compilation from scratch of any inputs that have these last values. A leaf's values meet its benchmarks within
+/// the gap, and every item's chained volumes are the products of its links up to the drift. `front` is passed on. A
 /// step is one joint of one sweep of the solver.
 pub fn compile_all<L: Ledger>(
     alloc: Global,
@@ -50,12 +44,12 @@ pub fn compile_all<L: Ledger>(
 ) -> Result<Release, Memory>
     requires { tables.now.items ≡ length plan.now.names }
     ensures front { IfOk result (λ release. release.front ≡ front) }
-    ensures nodes { IfOk result (λ release. tables_in release ≡ item_tables (cell tables.now) plan.now) }
+    ensures nodes { Shows result (item_tables (cell tables.now) plan.now) }
     ensures items { IfOk result (λ release. length (tables_in release) ≡ length plan.now.names) }
-    ensures compiled { IfOk result (λ release. (given : List InputOf) → ((kind : KindOf) (leaf period : ℕ) → cell tables.now kind leaf period ≡ last_value given kind leaf period) → tables_in release ≡ compilation plan.now given) }
-    ensures meets { IfOk result (λ release. All MeetsItsBenchmarks (tables_in release)) }
-    ensures within { IfOk result (λ release. All IsWithinItsGap (tables_in release)) }
-    ensures chained { IfOk result (λ release. All (IsTrulyChained plan.now.reference) (tables_in release)) }
+    ensures compiled { IfOk result (IsCompiledFrom plan.now tables.now) }
+    ensures meets { IfOk result (EachTable MeetsItsBenchmarks) }
+    ensures within { IfOk result (EachTable IsWithinItsGap) }
+    ensures chained { IfOk result (EachTable (IsTrulyChained plan.now.reference)) }
     ensures steps { steps.new ≤ steps.old + most_steps (cell tables.now) plan.now }
 {
     let mut nodes = Vec::with_capacity(alloc, plan.len() as usize)?;
@@ -79,9 +73,9 @@ fn compile_item<L: Ledger>(
     requires tables { tables.now.items ≡ length plan.now.names }
     requires parents { length plan.now.parents ≡ length plan.now.names }
     requires item { item < length plan.now.names }
-    requires behind { AreLastItems (cell tables.now) plan.now (suc item) (map (λ node. table_in (arc_value node)) behind.now) }
-    ensures table { IfOk result (λ table. table_in table ≡ item_table (cell tables.now) plan.now item) }
-    ensures known { IfOk result (λ table. IsKnownItem (length (leaves_under plan.now item)) (table_in table)) }
+    requires behind { AreLastItems (cell tables.now) plan.now (suc item) (node_tables behind.now) }
+    ensures table { Makes result (item_table (cell tables.now) plan.now item) }
+    ensures known { IfOk result (IsKnownOf plan.now item) }
     ensures steps { steps.new ≤ steps.old + 192 * joints_of (cell tables.now) plan.now item }
 {
     if plan.is_leaf(item) {
@@ -102,8 +96,8 @@ fn leaf_of_plan<L: Ledger>(
     requires tables { item < tables.now.items }
     requires item { item < length plan.now.parents }
     requires leaf { is_leaf plan.now item ≡ true }
-    ensures table { IfOk result (λ table. table_in table ≡ item_table (cell tables.now) plan.now item) }
-    ensures known { IfOk result (λ table. IsKnownItem (length (leaves_under plan.now item)) (table_in table)) }
+    ensures table { Makes result (item_table (cell tables.now) plan.now item) }
+    ensures known { IfOk result (IsKnownOf plan.now item) }
     ensures steps { steps.new ≤ steps.old + 192 * joints_of (cell tables.now) plan.now item }
 {
     let input = tables.leaf_input(item)?;
@@ -119,12 +113,11 @@ fn inner_of_plan(
 ) -> Result<NodeTable, Memory>
     requires parents { length plan.now.parents ≡ length plan.now.names }
     requires inner { is_leaf plan.now item ≡ false }
-    requires parent { not (list_any (is_parent item) (drop (suc item) plan.now.parents)) ≡ false }
+    requires parent { not (has_child plan.now item) ≡ false }
     requires whole { suc item + length behind.now ≡ length plan.now.names }
-    requires values { (k : ℕ) → k < length behind.now → AreItemCells (10 ^ 24) (length (leaves_under plan.now (length plan.now.names - 1 - k))) (slice_index_or (map node_value behind.now) k []) }
-    requires volumes { (k : ℕ) → k < length behind.now → AreItemCells (10 ^ 15) (length (leaves_under plan.now (length plan.now.names - 1 - k))) (slice_index_or (map node_prev behind.now) k []) }
-    ensures table { (value_at : KindOf → ℕ → ℕ → Option ℤ) → AreLastItems value_at plan.now (suc item) (map (λ node. table_in (arc_value node)) behind.now) → IfOk result (λ table. table_in table ≡ item_table value_at plan.now item) }
-    ensures known { IfOk result (λ table. IsKnownItem (length (leaves_under plan.now item)) (table_in table)) }
+    requires known { AreLastFlows plan.now behind.now }
+    ensures table { MakesItem plan.now item behind.now result }
+    ensures known { IfOk result (IsKnownOf plan.now item) }
 {
     let sum = sum_of_children(alloc, plan, item, behind)?;
     compile_inner(alloc, &sum, plan.reference())
@@ -138,10 +131,8 @@ fn sum_of_children(
     behind: &[Arc<NodeTable>],
 ) -> Result<FlowSum, Memory>
     requires whole { suc item + length behind.now ≡ length plan.now.names }
-    requires values { (k : ℕ) → k < length behind.now → AreItemCells (10 ^ 24) (length (leaves_under plan.now (length plan.now.names - 1 - k))) (slice_index_or (map node_value behind.now) k []) }
-    requires volumes { (k : ℕ) → k < length behind.now → AreItemCells (10 ^ 15) (length (leaves_under plan.now (length plan.now.names - 1 - k))) (slice_index_or (map node_prev behind.now) k []) }
-    ensures values { IfOk result (λ sum. IsSumBehind (10 ^ 24) item (suc item) (drop (suc item) plan.now.parents) (reverse (map node_value behind.now)) sum.value) }
-    ensures volumes { IfOk result (λ sum. IsSumBehind (10 ^ 15) item (suc item) (drop (suc item) plan.now.parents) (reverse (map node_prev behind.now)) sum.prev) }
+    requires known { AreLastFlows plan.now behind.now }
+    ensures { IfOk result (AreChildSums plan.now item behind.now) }
 {
     let items = plan.len();
     let mut sum = FlowSum::new(alloc, QUARTERS)?;

@@ -1,8 +1,7 @@
 //! One item's table.
 
 ghost use Rattle.std.specs.Prelude.{◌≤◌, length};
-ghost use Rattle.std.specs.Option.{ForSome};
-ghost use Rattle.node_compile.specs.Shape.{IsBenchmarked, IsChainShaped};
+ghost use Rattle.node_compile.specs.Shape.{IsBenchmarkedPart, IsChainShaped};
 
 use annual_overlap::ChainTable;
 use dual_cert::Cert;
@@ -19,16 +18,18 @@ pub struct LeafPart {
     pub cert: Cert,
 }
 
-/// An item's table: its figures quarter by quarter, of at most 512 quarters, their chain, and what stands behind a leaf's values.
+/// An item's table: its figures quarter by quarter, of at most 512 quarters, their chain, and what stands behind a
+/// leaf's values.
 #[derive(Debug, Drop)]
 pub struct NodeTable {
     /// none for an inner item, and for a leaf without a benchmarked year, all of whose values are then missing
     pub leaf: Option<LeafPart>,
     /// the values, and the volumes at previous-year prices, of the quarters from the start year's first on
     pub flows: NodeFlows,
-    /// the chain of these values and volumes: the figures of the years that have a quarter, and the chained volumes of years and quarters
+    /// the chain of these values and volumes: the figures of the years that have a quarter, and the chained volumes of
+    /// years and quarters
     pub chain: ChainTable,
     pub ghost few: { length flows.value ≤ 512 },
     pub ghost shaped: { IsChainShaped chain (length flows.value) },
-    pub ghost benchmarked: { ForSome leaf (λ part. IsBenchmarked part.ind.items part.bench.items part.cert.u.items flows.value) },
+    pub ghost benchmarked: { IsBenchmarkedPart leaf flows.value },
 }

@@ -10,7 +10,8 @@ use std::marker::Brand;
 use std::sync::ledger::{Blank, Ledger};
 use std::test::Fail;
 
-// Sends a leaf four quarters with an indicator, each at a price index of 1, and a benchmark of four times the indicator.
+// Sends a leaf four quarters with an indicator, each at a price index of 1, and a benchmark of four times the
+// indicator.
 fn send(tables: &mut Tables, leaf: u16, indicator: u16)
     requires leaf { leaf < tables.old.items }
     requires positive { 1 ≤ indicator }

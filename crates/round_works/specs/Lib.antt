@@ -6,3 +6,4 @@ pub mod Rounds
 pub mod Sameness
 pub mod Adding
 pub mod Opening
+pub mod Driven

@@ -1,7 +1,7 @@
 -- What a round keeps beside the states of its jobs: two copies of each touched item's work, one to hand out and one to
 -- compare with what comes back. A sum is in the making while a child of its item has an unfinished job.
-use Rattle.std.specs.Prelude.{◌≡◌, ℕ, suc, ◌-◌, ◌≤◌, not, ◌&&◌, true, false, Bool, IsTrue, IsFalse, List, [], ◌∷◌, map, drop, length, slice_index_or, Option, Some, None, if◌then◌else◌, All}
-use Rattle.std.specs.List.{range_with_len}
+use Rattle.std.specs.Prelude.{◌≡◌, ℕ, suc, ◌-◌, ◌≤◌, not, ◌&&◌, IsTrue, IsFalse, List, [], ◌∷◌, map, drop, length, slice_index_or, Option, Some, None, if◌then◌else◌, All}
+use Rattle.std.specs.List.{list_any, range_with_len}
 use Rattle.aggregate_tree.specs.Sum.{Sum}
 use Rattle.aggregate_tree.specs.Tallies.{IsSumOf}
 use Rattle.price_base.specs.declared.Cell.{Cell}
@@ -49,12 +49,17 @@ pub record IsSumFrom (plan : PlanShape) (inputs : List Input) (jobs : List JobSt
   pub value : IsSumOf (settled_from plan jobs (values_after plan inputs) item first) sum.value
   pub prev : IsSumOf (settled_from plan jobs (volumes_after plan inputs) item first) sum.prev
 
+-- an item is no leaf: an item behind it has it as its parent
+abbrev pub IsInner : PlanShape → ℕ → Type 0
+IsInner plan item =
+    IsFalse (is_leaf plan item) × IsTrue (list_any (is_parent item) (drop (suc item) plan.parents))
+
 -- a work of an item is that after these inputs, as far as the item's children have no unfinished job
 abbrev pub IsPartWork : PlanShape → List Input → List JobState → ℕ → Option Work → Type 0
 IsPartWork plan inputs jobs item None = ⊥
 IsPartWork plan inputs jobs item (Some (Leaf input)) = work_in (Leaf input) ≡ work_after plan inputs item
 IsPartWork plan inputs jobs item (Some (Inner sum)) =
-    IsFalse (is_leaf plan item) × IsSumFrom plan inputs jobs item (suc item) sum
+    IsInner plan item × IsSumFrom plan inputs jobs item (suc item) sum
 
 -- a work of an item is whole: it is that after these inputs
 abbrev pub IsWholeWork : PlanShape → List Input → ℕ → Option Work → Type 0
@@ -67,14 +72,14 @@ BothPass P kept ready item = P (work_at kept item) × P (work_at ready item)
 
 -- the two copies of the works of a round over these inputs
 pub record AreWorks (plan : PlanShape) (inputs : List Input) (jobs : List JobState) (kept ready : List (Option Work)) : Type 0 where
-  pub in_making : (item : ℕ) → state_of jobs item ≡ Waiting →
-      has_unfinished_child plan.parents jobs item ≡ true →
+  -- an item waits while a child has an unfinished job, and its works are in the making
+  pub waits : (item : ℕ) → IsTrue (has_unfinished_child plan.parents jobs item) → state_of jobs item ≡ Waiting
+  pub in_making : (item : ℕ) → IsTrue (has_unfinished_child plan.parents jobs item) →
       BothPass (IsPartWork plan inputs jobs item) kept ready item
-  pub waiting : (item : ℕ) → state_of jobs item ≡ Waiting →
-      has_unfinished_child plan.parents jobs item ≡ false →
+  -- from then on they are whole, the one to hand out until it is out
+  pub waiting : (item : ℕ) → state_of jobs item ≡ Waiting → IsFalse (has_unfinished_child plan.parents jobs item) →
       BothPass (IsWholeWork plan inputs item) kept ready item
-  pub out : (item : ℕ) → state_of jobs item ≡ Out →
-      (has_unfinished_child plan.parents jobs item ≡ false) × IsWholeWork plan inputs item (work_at kept item)
+  pub out : (item : ℕ) → state_of jobs item ≡ Out → IsWholeWork plan inputs item (work_at kept item)
 
 -- the parts of a round of a plan over these inputs
 pub record AreParts (plan : PlanShape) (inputs : List Input) (front : ℕ) (round : RoundShape) (kept ready : List (Option Work)) : Type 0 where

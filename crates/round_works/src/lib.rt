@@ -12,3 +12,6 @@ mod work;
 pub use compiling::{CompileEnd, compile};
 pub use round::OpenRound;
 pub use work::{Compiled, Job, Work};
+
+#[cfg(test)]
+mod tests;

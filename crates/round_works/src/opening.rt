@@ -2,8 +2,8 @@
 
 ghost use Rattle.std.specs.Prelude.{◌≡◌, ◌<◌, List, Some, suc, length, IfOk};
 ghost use Rattle.round_works.specs.Making.{IsPartWork, IsSumFrom};
-ghost use Rattle.round_works.specs.Opening.{AreFirstWorks, CanBegin, CanShow, IsBeginning, ShowsOthers};
-ghost use Rattle.round_works.specs.Opening.{is_other_child as is_other_child_of};
+ghost use Rattle.round_works.specs.Opening.{AreFirstWorks, CanBegin, CanShow, IsBeginning, IsFirstWork};
+ghost use Rattle.round_works.specs.Opening.{IsOnePerItem, ShowsOthers, is_other_child as is_other_child_of};
 ghost use Rattle.series_tables.specs.declared.input.Input.{Input};
 
 use crate::work::Work;
@@ -29,25 +29,44 @@ pub(crate) fn first_works(
     requires tables { tables.now.items ≡ length plan.now.names }
     requires shown { length board.now.shown ≡ length plan.now.names }
     requires inputs { CanBegin plan.now tables.now jobs.now.jobs board.now.shown }
-    ensures all { IfOk result (λ works. length works.items ≡ length plan.now.names) }
+    ensures all { IfOk result (λ works. IsOnePerItem plan.now (length works.items)) }
     ensures works { (inputs : List Input) →
         IsBeginning plan.now inputs tables.now jobs.now.jobs board.now.shown →
         IfOk result (λ works. AreFirstWorks plan.now inputs jobs.now.jobs works.items) }
 {
     let mut works = Vec::with_capacity(alloc, plan.len() as usize)?;
     for item in 0..plan.len() {
-        let work = if jobs.has_job(item) {
-            Some(first_work(alloc, plan, tables, jobs, board, item)?)
-        } else {
-            None
-        };
-        works.push(work)?;
+        works.push(first_work(alloc, plan, tables, jobs, board, item)?)?;
     }
     Ok(works)
 }
 
-/// The work with which an item's job opens.
+/// The work with which an item's job opens. None where it has no job.
 fn first_work(
+    alloc: Global,
+    plan: &Plan,
+    tables: &Tables,
+    jobs: &PlanRound,
+    board: &Board<NodeTable>,
+    item: u16,
+) -> Result<Option<Work>, Memory>
+    requires item { item < length plan.now.names }
+    requires tables { tables.now.items ≡ length plan.now.names }
+    requires shown { length board.now.shown ≡ length plan.now.names }
+    requires inputs { CanBegin plan.now tables.now jobs.now.jobs board.now.shown }
+    ensures { (inputs : List Input) →
+        IsBeginning plan.now inputs tables.now jobs.now.jobs board.now.shown →
+        IfOk result (IsFirstWork plan.now inputs jobs.now.jobs item) }
+{
+    if jobs.has_job(item) {
+        Ok(Some(work_of(alloc, plan, tables, jobs, board, item)?))
+    } else {
+        Ok(None)
+    }
+}
+
+/// A leaf's inputs, or the sum of an inner item's children that have no job.
+fn work_of(
     alloc: Global,
     plan: &Plan,
     tables: &Tables,
@@ -84,8 +103,9 @@ fn sum_of_others(
     ensures { (inputs : List Input) → ShowsOthers plan.now inputs jobs.now.jobs board.now.shown →
         IfOk result (IsSumFrom plan.now inputs jobs.now.jobs item (suc item)) }
 {
+    let items = plan.len();
     let mut sum = FlowSum::new(alloc, QUARTERS)?;
-    for child in (item + 1..plan.len()).rev() {
+    for child in (item + 1..items).rev() {
         if is_other_child(plan, jobs, item, child) {
             sum.add(&board.show(child).flows);
         }

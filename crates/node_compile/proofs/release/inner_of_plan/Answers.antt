@@ -24,8 +24,8 @@ pub returns-clause-table : goal.returns-clause-table
 returns-clause-table c value_at last =
     let parent = named (list_any (is_parent c.args.item) (drop (suc c.args.item) c.args.plan.now.parents)) c.requires.parent in
     let inside : c.args.item < length c.args.plan.now.parents = omega (arith, c.requires.whole, c.requires.parents) in
-    let values = value_lists (λ (node : Arc NodeTable Global). table_in (arc_value node)) value_at c.args.plan.now c.args.item c.args.behind.now c.in_ok-sum.sum.value inside c.requires.parents parent last c.in_ok-sum.ensures.values in
-    let volumes = prev_lists (λ (node : Arc NodeTable Global). table_in (arc_value node)) value_at c.args.plan.now c.args.item c.args.behind.now c.in_ok-sum.sum.prev inside c.requires.parents parent last c.in_ok-sum.ensures.volumes in
+    let values = value_lists (λ (node : Arc NodeTable Global). table_in (arc_value node)) value_at c.args.plan.now c.args.item c.args.behind.now c.in_ok-sum.sum.value inside c.requires.parents parent last c.in_ok-sum.ensures.0 in
+    let volumes = prev_lists (λ (node : Arc NodeTable Global). table_in (arc_value node)) value_at c.args.plan.now c.args.item c.args.behind.now c.in_ok-sum.sum.prev inside c.requires.parents parent last c.in_ok-sum.ensures.1 in
     let reference : c.reference.result.0 ≡ c.args.plan.now.reference = ap (λ r. r.0) c.reference.ensures.year in
     if_ok c.compile_inner.result _ _
     (λ table e. e ∙ ap (λ (n : ℕ). inner_table (all_leaves values.children) (all_leaves volumes.children) n) reference ∙ inner_is_item value_at c.args.plan.now c.args.item (all_leaves values.children) (all_leaves volumes.children) c.requires.inner values.all volumes.all)
@@ -37,8 +37,8 @@ returns-clause-known c =
     let inside : c.args.item < length c.args.plan.now.parents = omega (arith, c.requires.whole, c.requires.parents) in
     let made : Table = chained_table None (cells_of c.in_ok-sum.sum.value) (cells_of c.in_ok-sum.sum.prev) c.reference.result.0 in
     let known : IsKnownItem (length (leaves_under c.args.plan.now c.args.item)) made = record {
-      value = sum_is_known (10 ^ 24) c.args.item c.args.plan.now _ c.in_ok-sum.sum.value inside parent (flows_of_sum c.in_ok-sum.sum.value) c.in_ok-sum.ensures.values;
-      prev = sum_is_known (10 ^ 15) c.args.item c.args.plan.now _ c.in_ok-sum.sum.prev inside parent (flows_of_sum c.in_ok-sum.sum.prev) c.in_ok-sum.ensures.volumes;
+      value = sum_is_known (10 ^ 24) c.args.item c.args.plan.now _ c.in_ok-sum.sum.value inside parent (flows_of_sum c.in_ok-sum.sum.value) c.in_ok-sum.ensures.0;
+      prev = sum_is_known (10 ^ 15) c.args.item c.args.plan.now _ c.in_ok-sum.sum.prev inside parent (flows_of_sum c.in_ok-sum.sum.prev) c.in_ok-sum.ensures.1;
       meets = tt;
       within = tt;
     } in

@@ -1,5 +1,4 @@
 use Rattle.std.proofs.Common.{◌≡◌, ◌-◌, ◌^◌, ◌≤◌, ◌∙◌, ℕ, true, None, length, get_or, ap, sym, subst, arith, Global}
-use Rattle.std.specs.Arc.{arc_value}
 use Rattle.std.specs.declared.sync.Arc.{Arc}
 use Rattle.aggregate_tree.specs.Sum.{Sum, with_child}
 use Rattle.aggregate_tree.specs.Tallies.{with_cells, AreValueSums, AreVolumeSums}
@@ -27,13 +26,13 @@ add-requires-clause-children c = omega (arith, c.loop-place.invariant.2, c.requi
 pub add-requires-clause-quarters : goal.add-requires-clause-quarters
 add-requires-clause-quarters c =
     let node : Arc NodeTable Global = c.index-behind-place.result in
-    let few : length c.deref.result.now.flows.value ≤ 256 = subst (λ (t : NodeTable). length t.flows.value ≤ 256) (sym c.deref.ensures) (node_few node_value (10 ^ 24) c.loop-place.place c.args.plan.now c.args.behind.now node c.loop-place-test.true c.index-behind-place.is c.requires.values) in
+    let few : length c.deref.result.now.flows.value ≤ 256 = subst (λ (t : NodeTable). length t.flows.value ≤ 256) (sym c.deref.ensures) (node_few node_value (10 ^ 24) c.loop-place.place c.args.plan.now c.args.behind.now node c.loop-place-test.true c.index-behind-place.is c.requires.known.0) in
     omega (arith, c.loop-place.invariant.0.room, few)
 
 pub add-requires-clause-value_sums : goal.add-requires-clause-value_sums
 add-requires-clause-value_sums c =
     let node : Arc NodeTable Global = c.index-behind-place.result in
-    let turn = node_turn node_value (10 ^ 24) c.args.item c.loop-place.place c.args.plan.now c.args.behind.now node c.loop-place.sum.value (omega (arith, c.len-items.ensures)) c.requires.whole c.loop-place-test.true c.index-behind-place.is c.requires.values c.loop-place.invariant.0 in
+    let turn = node_turn node_value (10 ^ 24) c.args.item c.loop-place.place c.args.plan.now c.args.behind.now node c.loop-place.sum.value (omega (arith, c.len-items.ensures)) c.requires.whole c.loop-place-test.true c.index-behind-place.is c.requires.known.0 c.loop-place.invariant.0 in
     let own : is_parent c.args.item (get_or c.args.plan.now.parents (length c.args.plan.now.names - 1 - c.loop-place.place) None) ≡ true = ap (λ (n : ℕ). is_parent c.args.item (get_or c.args.plan.now.parents (n - 1 - c.loop-place.place) None)) (sym c.len-items.ensures.items) ∙ sym (c.if-is_child.ensures) in
     let fits = value_turn_fits node_value c.args.item c.loop-place.place c.args.plan.now c.args.behind.now (with_cells (node_value node) c.loop-place.sum.value) (omega (arith, c.len-items.ensures)) c.requires.whole c.loop-place-test.true (turn own) in
     subst (λ (t : NodeTable). AreValueSums (with_cells t.flows.value c.loop-place.sum.value)) (sym c.deref.ensures) fits
@@ -41,7 +40,7 @@ add-requires-clause-value_sums c =
 pub add-requires-clause-prev_sums : goal.add-requires-clause-prev_sums
 add-requires-clause-prev_sums c =
     let node : Arc NodeTable Global = c.index-behind-place.result in
-    let turn = node_turn node_prev (10 ^ 15) c.args.item c.loop-place.place c.args.plan.now c.args.behind.now node c.loop-place.sum.prev (omega (arith, c.len-items.ensures)) c.requires.whole c.loop-place-test.true c.index-behind-place.is c.requires.volumes c.loop-place.invariant.1 in
+    let turn = node_turn node_prev (10 ^ 15) c.args.item c.loop-place.place c.args.plan.now c.args.behind.now node c.loop-place.sum.prev (omega (arith, c.len-items.ensures)) c.requires.whole c.loop-place-test.true c.index-behind-place.is c.requires.known.1 c.loop-place.invariant.1 in
     let own : is_parent c.args.item (get_or c.args.plan.now.parents (length c.args.plan.now.names - 1 - c.loop-place.place) None) ≡ true = ap (λ (n : ℕ). is_parent c.args.item (get_or c.args.plan.now.parents (n - 1 - c.loop-place.place) None)) (sym c.len-items.ensures.items) ∙ sym (c.if-is_child.ensures) in
     let fits = volume_turn_fits node_prev c.args.item c.loop-place.place c.args.plan.now c.args.behind.now (with_cells (node_prev node) c.loop-place.sum.prev) (omega (arith, c.len-items.ensures)) c.requires.whole c.loop-place-test.true (turn own) in
     subst (λ (t : NodeTable). AreVolumeSums (with_cells t.flows.prev c.loop-place.sum.prev)) (sym c.deref.ensures) fits
@@ -53,8 +52,8 @@ loop-place-preserved c =
     elim c.if-is_child.branch [
       | then-is_child w ↦
           let node : Arc NodeTable Global = w.index-behind-place.result in
-          let values = node_turn node_value (10 ^ 24) c.args.item c.loop-place.place c.args.plan.now c.args.behind.now node c.loop-place.sum.value (omega (arith, c.len-items.ensures)) c.requires.whole c.loop-place-test.true w.index-behind-place.is c.requires.values c.loop-place.invariant.0 in
-          let volumes = node_turn node_prev (10 ^ 15) c.args.item c.loop-place.place c.args.plan.now c.args.behind.now node c.loop-place.sum.prev (omega (arith, c.len-items.ensures)) c.requires.whole c.loop-place-test.true w.index-behind-place.is c.requires.volumes c.loop-place.invariant.1 in
+          let values = node_turn node_value (10 ^ 24) c.args.item c.loop-place.place c.args.plan.now c.args.behind.now node c.loop-place.sum.value (omega (arith, c.len-items.ensures)) c.requires.whole c.loop-place-test.true w.index-behind-place.is c.requires.known.0 c.loop-place.invariant.0 in
+          let volumes = node_turn node_prev (10 ^ 15) c.args.item c.loop-place.place c.args.plan.now c.args.behind.now node c.loop-place.sum.prev (omega (arith, c.len-items.ensures)) c.requires.whole c.loop-place-test.true w.index-behind-place.is c.requires.known.1 c.loop-place.invariant.1 in
           let own = same ∙ w.if-is_child.true in
           let made : c.if-is_child.sum ≡ with_child (node_value node) (node_prev node) c.loop-place.sum = w.sum-is ∙ w.add.ensures.added ∙ ap (λ (t : NodeTable). with_child t.flows.value t.flows.prev c.loop-place.sum) w.deref.ensures in
           rw made (values own, volumes own, omega (arith, c.loop-place.invariant.2))
@@ -64,10 +63,8 @@ loop-place-preserved c =
           rw w.sum-is (values, volumes, omega (arith, c.loop-place.invariant.2))
     ]
 
-pub returns-clause-values : goal.returns-clause-values
-returns-clause-values c =
-    turns_done node_value (10 ^ 24) c.args.item c.loop-place.place c.args.plan.now c.args.behind.now c.loop-place.sum.value c.requires.whole (omega (arith, c.loop-place-test.false, c.loop-place.auto)) c.loop-place.invariant.0
-
-pub returns-clause-volumes : goal.returns-clause-volumes
-returns-clause-volumes c =
-    turns_done node_prev (10 ^ 15) c.args.item c.loop-place.place c.args.plan.now c.args.behind.now c.loop-place.sum.prev c.requires.whole (omega (arith, c.loop-place-test.false, c.loop-place.auto)) c.loop-place.invariant.1
+pub returns : goal.returns
+returns c = (
+  turns_done node_value (10 ^ 24) c.args.item c.loop-place.place c.args.plan.now c.args.behind.now c.loop-place.sum.value c.requires.whole (omega (arith, c.loop-place-test.false, c.loop-place.auto)) c.loop-place.invariant.0,
+  turns_done node_prev (10 ^ 15) c.args.item c.loop-place.place c.args.plan.now c.args.behind.now c.loop-place.sum.prev c.requires.whole (omega (arith, c.loop-place-test.false, c.loop-place.auto)) c.loop-place.invariant.1,
+)
