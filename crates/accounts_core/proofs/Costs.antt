@@ -55,15 +55,23 @@ left_within jobs item left = elim (cases_lt item (length jobs)) [
   | inr past ↦ absurd (let none : is_left jobs item ≡ false = ap is_unfinished (get_or_past jobs item Clean past) in let never : true ≡ false = sym left ∙ none in cc)
 ]
 
+-- a job counts where it isn't done
+abbrev unfinished_one : JobState → ℕ
+unfinished_one s = cond (is_unfinished s) 1 0
+
 -- one job fewer is left
-pub count_done : (jobs : List JobState) (k : ℕ) → is_left jobs k ≡ true → count_by is_unfinished (slice_set jobs k Done) + 1 ≡ count_by is_unfinished jobs
+pub count_done : (jobs : List JobState) (k : ℕ) → is_left jobs k ≡ true → suc (count_by is_unfinished (slice_set jobs k Done)) ≡ count_by is_unfinished jobs
 count_done [] k left = absurd (cc)
 count_done (j ∷ jobs) zero left =
-    let one : cond (is_unfinished j) 1 0 ≡ cond true 1 0 = ap (λ (b : Bool). cond b 1 0) left in
-    omega (arith, sum_by-cons (λ s. cond (is_unfinished s) 1 0) Done jobs, sum_by-cons (λ s. cond (is_unfinished s) 1 0) j jobs, one)
+    let one : unfinished_one j ≡ 1 = by (is_unfinished j) left in
+    omega (arith, sum_by-cons (unfinished_one) Done jobs, sum_by-cons (unfinished_one) j jobs, one)
+  where
+    by : (b : Bool) → b ≡ true → (let n : ℕ = cond b 1 0 in n) ≡ 1
+    by true e = refl
+    by false e = absurd (cc)
 count_done (j ∷ jobs) (suc k) left =
     let more = count_done jobs k left in
-    omega (arith, sum_by-cons (λ s. cond (is_unfinished s) 1 0) j (slice_set jobs k Done), sum_by-cons (λ s. cond (is_unfinished s) 1 0) j jobs, more)
+    omega (arith, sum_by-cons (unfinished_one) j (slice_set jobs k Done), sum_by-cons (unfinished_one) j jobs, more)
 
 -- a sum over all that is left is at most one over all that is touched, where what is left is touched
 pub cost_touched : (cost : ℕ → ℕ) (jobs : List JobState) (touched : ℕ → Bool) (items : List ℕ) → ((item : ℕ) → is_left jobs item ≡ true → touched item ≡ true)

@@ -1,6 +1,6 @@
 -- A round's jobs come to an end, and the round is published.
 use Rattle.std.proofs.Common.{◌≡◌, ◌∙◌, ap, sym, refl, subst, inl, inr, ℕ, zero, suc, ◌+◌, ◌≤◌, ◌<◌, Bool, true, false, ◌||◌, ◌&&◌, cond, List, [], ◌∷◌, ◌++◌, length, drop, take, get_or, Option, Some, None, arith, append_assoc, append-nil}
-use Rattle.std.specs.Prelude.{All, IsFalse, IsTrue, not, ◌≢◌}
+use Rattle.std.specs.Prelude.{All, Err, IsFalse, IsTrue, Ok, OnOk, Result, not, ◌≢◌}
 use Rattle.std.specs.List.{list_any}
 use Rattle.std.proofs.lemmas.Bool.{cases_lt}
 use Rattle.std.proofs.lemmas.List.{get_or-drop, get_or_past}
@@ -17,7 +17,7 @@ use Rattle.accounts_history.specs.declared.entry.Entry.{Entry}
 use Rattle.accounts_history.specs.declared.entry.Entry.TheVariants.{Accept, Publish}
 use Rattle.accounts_history.proofs.Histories.{front_of-publish, inputs_of-append, length-inputs_of}
 use Rattle.round_works.specs.Rounds.{Round}
-use Rattle.accounts_core.specs.Finishing.{HasOnlyPublished, IsPublicationOf, IsSameRound, NoneLeft, NoneOut, front_ahead, item_steps, jobs_in, jobs_now, next_front, steps_between, steps_left, with_jobs}
+use Rattle.accounts_core.specs.Finishing.{HasOnlyPublished, IsPublicationOf, IsSameRound, NoneLeft, NoneOut, front_ahead, item_steps, jobs_in, jobs_now, next_front, steps_between, steps_left, steps_over, with_jobs, IsFinished, IsRoundEnded, RunsOne, steps_ahead}
 use Rattle.accounts_core.specs.Sound.{IsSound}
 use Rattle.accounts_core.specs.State.{CoreState, accepted, next_round, published, with_round}
 use Rattle.accounts_core.specs.Step.{Begins, Publishes}
@@ -43,20 +43,18 @@ none_open item (parent ∷ parents) (job ∷ jobs) none = by (is_parent item par
 none_of_last : (parents : List (Option ℕ)) (jobs : List JobState) → NoneOut jobs → ((item : ℕ) → item < length jobs → IsFalse (is_ready parents jobs item)) → (last item : ℕ) → length jobs ≤ item + last → is_left jobs item ≡ false
 none_of_last parents jobs none_out none_ready zero item past = ap is_unfinished (get_or_past jobs item Clean (omega (arith, past)))
 none_of_last parents jobs none_out none_ready (suc last) item past = elim (cases_lt item (length jobs)) [
-  | inl below ↦ by (state_of jobs item) refl (none_ready item below)
+  | inl below ↦
+      by (state_of jobs item) refl (none_ready item below)
+      (none_open item (drop (suc item) parents) (drop (suc item) jobs)
+       (λ k. ap is_unfinished (get_or-drop (suc item) jobs k Clean) ∙ none_of_last parents jobs none_out none_ready last (suc item + k) (omega (arith, past))))
   | inr behind ↦ ap is_unfinished (get_or_past jobs item Clean behind)
 ]
   where
-    closed : has_unfinished_child parents jobs item ≡ false
-    closed =
-        none_open item (drop (suc item) parents) (drop (suc item) jobs)
-        (λ k. ap is_unfinished (get_or-drop (suc item) jobs k Clean) ∙ none_of_last parents jobs none_out none_ready last (suc item + k) (omega (arith, past)))
-
-    by : (s : JobState) → state_of jobs item ≡ s → is_ready parents jobs item ≡ false → is_left jobs item ≡ false
-    by Clean e ready = ap is_unfinished e
-    by Done e ready = ap is_unfinished e
-    by Out e ready = absurd (none_out item e)
-    by Waiting e ready = absurd (let waits : is_waiting (state_of jobs item) ≡ true = ap is_waiting e in let never : true ≡ false = sym (ap (λ (b : Bool). b && not (has_unfinished_child parents jobs item)) waits ∙ ap not closed) ∙ ready in cc)
+    by : (s : JobState) → state_of jobs item ≡ s → is_ready parents jobs item ≡ false → has_unfinished_child parents jobs item ≡ false → is_left jobs item ≡ false
+    by Clean e ready closed = ap is_unfinished e
+    by Done e ready closed = ap is_unfinished e
+    by Out e ready closed = absurd (none_out item e)
+    by Waiting e ready closed = absurd (let waits : is_waiting (state_of jobs item) ≡ true = ap is_waiting e in let never : true ≡ false = sym (ap (λ (b : Bool). b && not (has_unfinished_child parents jobs item)) waits ∙ ap not closed) ∙ ready in cc)
 
 pub none_left : (parents : List (Option ℕ)) (jobs : List JobState) → NoneOut jobs → ((item : ℕ) → item < length jobs → IsFalse (is_ready parents jobs item)) → NoneLeft jobs
 none_left parents jobs none_out none_ready item = none_of_last parents jobs none_out none_ready (length jobs) item (omega arith)
@@ -149,9 +147,9 @@ left_touched state sound some = touched_from state.plan state.history state.roun
 pub steps_as : (old new : CoreState) (front : ℕ) → new.plan ≡ old.plan → new.history ≡ old.history → next_front new ≡ front
     → steps_between new (published new) (next_front new) ≡ steps_between old (published old) front
 steps_as old new front plan history same =
-    ap (λ (p : PlanShape). let s : CoreState = record { plan = p; history = new.history; round = None } in steps_between s (published s) (next_front new)) plan
-    ∙ ap (λ (h : List Entry). let s : CoreState = record { plan = old.plan; history = h; round = None } in steps_between s (published s) (next_front new)) history
-    ∙ ap (λ (n : ℕ). let s : CoreState = record { plan = old.plan; history = old.history; round = None } in steps_between s (published s) n) same
+    ap (λ (p : PlanShape). steps_over p (inputs_of new.history) (front_of new.history) (next_front new)) plan
+    ∙ ap (λ (h : List Entry). steps_over old.plan (inputs_of h) (front_of h) (next_front new)) history
+    ∙ ap (λ (n : ℕ). steps_over old.plan (inputs_of old.history) (front_of old.history) n) same
 
 -- nothing was published
 pub only_none : (old new : CoreState) → new.plan ≡ old.plan → new.history ≡ old.history → HasOnlyPublished 0 old new
@@ -178,3 +176,49 @@ same_inputs old new only =
 
 pub same_accepted : (old new : CoreState) → HasOnlyPublished 0 old new → accepted new ≡ accepted old
 same_accepted old new only = sym (length-inputs_of new.history) ∙ ap (λ (inputs : List Input). length inputs) (same_inputs old new only) ∙ length-inputs_of old.history
+
+-- what was published after nothing was
+pub only_after : (old between new : CoreState) → between.plan ≡ old.plan → between.history ≡ old.history → HasOnlyPublished 0 between new → HasOnlyPublished 0 old new
+only_after old between new plan history only = record {
+  plan = only.plan ∙ plan;
+  added = only.added;
+  publications = only.publications;
+  history = only.history ∙ ap (λ (h : List Entry). h ++ only.added) history;
+}
+
+-- none is left once none is ready
+pub ended_next : (core new : CoreState) (more : Bool) (before after : ℕ) → NoneOut (jobs_now core) → RunsOne core more new before after → more ≡ false → NoneLeft (jobs_now new)
+ended_next core new true before after none run e = absurd (cc)
+ended_next core new false before after none run e =
+    subst (λ (s : CoreState). NoneLeft (jobs_now s)) (sym run.same) (none_left core.plan.parents (jobs_now core) none run.none)
+
+-- after a round that was run to its end all is ahead up to what was accepted
+next_closed : (plan : PlanShape) (history : List Entry) (round : Option Round) → round ≡ None → next_front (core_of plan history round) ≡ length (journal history)
+next_closed plan history round e = ap (λ (o : Option Round). next_front (core_of plan history o)) e
+
+pub next_accepted : (state : CoreState) → state.round ≡ None → next_front state ≡ accepted state
+next_accepted state closed = next_closed state.plan state.history state.round closed
+
+-- all is published after two rounds
+pub finished : (old between new : CoreState) → IsRoundEnded old between → HasOnlyPublished 0 between new → IsRoundEnded between new → IsFinished new
+finished old between new first only second = record {
+  all = second.published ∙ next_accepted between first.closed ∙ sym (same_accepted between new only);
+  closed = second.closed;
+}
+
+-- the steps of two rounds
+pub steps_twice : (old between : CoreState) (before middle after : ℕ) → IsRoundEnded old between → HasOnlyPublished 0 old between → middle ≤ before + steps_between old (published old) (next_front old)
+    → after ≤ middle + steps_between between (published between) (next_front between) → after ≤ before + steps_ahead old
+steps_twice old between before middle after first only one two =
+    let ahead : next_front between ≡ accepted old = next_accepted between first.closed ∙ same_accepted old between only in
+    let same : steps_between between (published between) (next_front between) ≡ steps_between old (next_front old) (accepted old) =
+        ap (λ (p : PlanShape). steps_over p (inputs_of between.history) (published between) (next_front between)) only.plan
+        ∙ ap (λ (inputs : List Input). steps_over old.plan inputs (published between) (next_front between)) (same_inputs old between only)
+        ∙ ap (λ (n : ℕ). steps_over old.plan (inputs_of old.history) n (next_front between)) first.published
+        ∙ ap (λ (n : ℕ). steps_over old.plan (inputs_of old.history) (next_front old) n) ahead in
+    omega (arith, one, two, same)
+
+-- a fact at success follows from another
+pub on_ok : {T E : Type 0} (P Q : Type 0) (r : Result T E) → (P → Q) → OnOk r P → OnOk r Q
+on_ok P Q (Ok value) follows p = follows p
+on_ok P Q (Err error) follows p = p

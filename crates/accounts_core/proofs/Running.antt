@@ -1,6 +1,6 @@
 -- Jobs that are put back, handed out and handed in while a round is run to its end.
 use Rattle.std.proofs.Common.{◌≡◌, ◌∙◌, ap, sym, refl, subst, inl, inr, ℕ, zero, suc, ◌+◌, ◌≤◌, ◌<◌, Bool, true, false, List, [], ◌∷◌, length, map, take, get_or, Option, Some, None, arith}
-use Rattle.std.specs.Prelude.{IfOk, IsFalse, IsTrue, Result, Ok, Err, ◌≢◌, slice_set, sum_by}
+use Rattle.std.specs.Prelude.{IfOk, IsFalse, IsTrue, Result, Ok, Err, ◌≢◌, count_by, slice_set, sum_by}
 use Rattle.std.specs.List.{range_with_len}
 use Rattle.std.proofs.lemmas.Bool.{cases_eq, cases_lt}
 use Rattle.std.proofs.lemmas.List.{get_or-set_same, get_or-set_other, get_or_past}
@@ -10,13 +10,15 @@ use Rattle.dirty_plan.specs.declared.job.JobState.{JobState}
 use Rattle.dirty_plan.specs.declared.job.JobState.TheVariants.{Clean, Waiting, Out, Done}
 use Rattle.accounts_history.specs.History.{inputs_of}
 use Rattle.accounts_history.specs.declared.entry.Entry.{Entry}
-use Rattle.round_works.specs.Jobs.{ItemJob, job_after, job_in, job_made}
+use Rattle.round_works.specs.Jobs.{ItemJob, job_after, job_in, job_made, job_of}
 use Rattle.round_works.specs.Rounds.{IsCopyOut, IsOut, Round, round_in, with_job}
-use Rattle.round_works.specs.Works.{ItemWork, most_steps_of}
+use Rattle.round_works.specs.Works.{ItemWork, most_steps_of, work_in}
 use Rattle.round_works.specs.declared.round.OpenRound.{OpenRound}
 use Rattle.round_works.specs.declared.work.Compiled.{Compiled}
 use Rattle.round_works.specs.declared.work.Job.{Job}
-use Rattle.accounts_core.specs.Finishing.{IsBack, IsCopyOf, IsSameRound, NoneOut, RunsItem, item_steps, jobs_in, jobs_now, next_front, steps_left, with_jobs, with_state_of, work_steps}
+use Rattle.round_works.specs.declared.work.Work.{Work}
+use Rattle.period_keys.specs.declared.Year.{Year}
+use Rattle.accounts_core.specs.Finishing.{IsBack, IsCopyOf, IsSameRound, NoneOut, RunsItem, RunsOne, item_steps, jobs_in, jobs_now, next_front, steps_left, with_jobs, with_state_of, work_steps}
 use Rattle.accounts_core.specs.Sound.{IsSound}
 use Rattle.accounts_core.specs.State.{CoreState, IsOutAt, IsOutNow}
 use Rattle.accounts_core.specs.Step.{HandsIn, PutsBack, Takes}
@@ -25,7 +27,7 @@ use Rattle.accounts_core.specs.declared.replies.Done.{Done as DoneReply}
 use Rattle.accounts_core.specs.declared.replies.Done.TheVariants.{NotOut as NotMadeOut, Kept as KeptMade}
 use Rattle.accounts_core.specs.declared.replies.PutBack.{PutBack as PutBackReply}
 use Rattle.accounts_core.specs.declared.replies.PutBack.TheVariants.{NotOut as NotOutJob, Kept as KeptJob}
-use Rattle.accounts_core.proofs.Costs.{cost_done, left_within}
+use Rattle.accounts_core.proofs.Costs.{cost_done, count_done, left_within}
 use Rattle.accounts_core.proofs.Handling.{inputs_under, ready_waits, state_of_parts}
 use Rattle.accounts_core.proofs.Lists.{within_jobs}
 
@@ -212,3 +214,44 @@ none_out_done old new item none left e other is =
   where
     jobs : jobs_now new ≡ slice_set (jobs_now old) item Done
     jobs = jobs_with old new item Done e
+
+-- what was made of a job is of that job
+pub made_of : (job : Job) (made : Compiled) → (made.front ≡ job.front) × (made.node ≡ job.node) × (made.reference ≡ job.reference) × (made.work ≡ job.work) → job_made made ≡ job_in job
+made_of job made same =
+    ap (λ (n : ℕ). job_of n made.node made.reference.0 (work_in made.work)) same.0
+    ∙ ap (λ (n : ℕ). job_of job.front n made.reference.0 (work_in made.work)) same.1
+    ∙ ap (λ (y : Year). job_of job.front job.node y.0 (work_in made.work)) same.2
+    ∙ ap (λ (w : Work). job_of job.front job.node job.reference.0 (work_in w)) same.3
+
+-- a round has no more jobs than the plan has items
+jobs_within : (plan : PlanShape) (history : List Entry) (round : Option Round) → IsSound (core_of plan history round) → length (jobs_in round) ≤ length plan.parents
+jobs_within plan history None sound = omega arith
+jobs_within plan history (Some r) sound = omega (arith, (sound.round r refl).items)
+
+-- no job is out once none of the plan's items is
+pub none_out_all : (old state : CoreState) (count item : ℕ) → IsSound state → state.plan ≡ old.plan → count ≡ length old.plan.parents → ((other : ℕ) → other < count → state_of (jobs_now state) other ≢ Out) → state_of (jobs_now state) item ≢ Out
+none_out_all old state count item sound plan all none is =
+    none item (omega (arith, within_jobs (jobs_now state) item Out is refl, jobs_within state.plan state.history state.round sound, ap (λ (p : PlanShape). length p.parents) plan, all)) is
+
+-- no job is out once a job was run, or none was ready
+pub none_out_next : (core new : CoreState) (more : Bool) (before after : ℕ) → NoneOut (jobs_now core) → RunsOne core more new before after → NoneOut (jobs_now new)
+none_out_next core new true before after none run = none_out_done core new run.item none run.left run.done
+none_out_next core new false before after none run = subst (λ (s : CoreState). NoneOut (jobs_now s)) (sym run.same) none
+
+pub steps_next : (core new : CoreState) (more : Bool) (before after : ℕ) → RunsOne core more new before after → after + steps_left new ≤ before + steps_left core
+steps_next core new true before after run = run.steps
+steps_next core new false before after run = omega (arith, run.steps, ap steps_left run.same)
+
+-- so many jobs are left, and one more look is made
+abbrev pub to_run : CoreState → Bool → ℕ
+to_run state true = suc (count_by is_unfinished (jobs_now state))
+to_run state false = count_by is_unfinished (jobs_now state)
+
+pub fewer_next : (core new : CoreState) (more : Bool) (before after : ℕ) → RunsOne core more new before after → to_run new more < to_run core true
+fewer_next core new true before after run =
+    let fewer = count_done (jobs_now core) run.item run.left in
+    let now : count_by is_unfinished (jobs_now new) ≡ count_by is_unfinished (slice_set (jobs_now core) run.item Done) = ap (count_by is_unfinished) (jobs_with core new run.item Done run.done) in
+    omega (arith, fewer, now)
+fewer_next core new false before after run =
+    let now : count_by is_unfinished (jobs_now new) ≡ count_by is_unfinished (jobs_now core) = ap (λ (s : CoreState). count_by is_unfinished (jobs_now s)) run.same in
+    omega (arith, now)

@@ -1,7 +1,8 @@
 -- What finishing the rounds does, call by call, and what it takes.
-use Rattle.std.specs.Prelude.{◌≡◌, ◌≢◌, ℕ, ◌+◌, ◌<◌, ◌≤◌, Bool, true, false, IsFalse, IsTrue, List, [], ◌++◌, All, length, slice_set, sum_by, if◌then◌else◌, Option, Some, None}
+use Rattle.std.specs.Prelude.{◌≡◌, ◌≢◌, ℕ, ◌+◌, ◌<◌, ◌≤◌, Bool, true, false, IsFalse, IsTrue, List, [], ◌++◌, All, length, slice_set, sum_by, take, if◌then◌else◌, Option, Some, None}
 use Rattle.std.specs.Option.{ForSome, IsSomeAnd, option_map}
 use Rattle.series_tables.specs.Plan.{PlanShape}
+use Rattle.series_tables.specs.declared.input.Input.{Input}
 use Rattle.dirty_plan.specs.Round.{is_left, is_ready, state_of}
 use Rattle.dirty_plan.specs.Touched.{is_touched_between, items_of}
 use Rattle.dirty_plan.specs.declared.job.JobState.{JobState}
@@ -31,15 +32,21 @@ pub record IsFinished (state : CoreState) : Type 0 where
   pub all : published state ≡ accepted state
   pub closed : state.round ≡ None
 
--- the most steps for an item after the inputs up to a front
-abbrev pub item_steps : CoreState → ℕ → ℕ → ℕ
-item_steps state front item = most_steps_of (work_after state.plan (inputs_to state front) item)
+-- the most steps for an item after the first so many inputs
+abbrev pub steps_at : PlanShape → List Input → ℕ → ℕ → ℕ
+steps_at plan inputs front item = most_steps_of (work_after plan (take front inputs) item)
 
--- the most steps of a round between two fronts: those of the items that the inputs between them touch
+-- the most steps of a round from one front to a later one: those of the items that the inputs between them touch
+abbrev pub steps_over : PlanShape → List Input → ℕ → ℕ → ℕ
+steps_over plan inputs front later = sum_by (λ item.
+    if is_touched_between plan inputs front later item then steps_at plan inputs later item else 0) (items_of plan)
+
+-- the same of a core's inputs
+abbrev pub item_steps : CoreState → ℕ → ℕ → ℕ
+item_steps state front item = steps_at state.plan (inputs_of state.history) front item
+
 abbrev pub steps_between : CoreState → ℕ → ℕ → ℕ
-steps_between state front later = sum_by (λ item.
-    if is_touched_between state.plan (inputs_of state.history) front later item then item_steps state later item else 0)
-    (items_of state.plan)
+steps_between state front later = steps_over state.plan (inputs_of state.history) front later
 
 -- the front up to which a round is compiled next: that of the open one, or all that was accepted
 abbrev pub front_ahead : CoreState → Option Round → ℕ
