@@ -23,7 +23,7 @@ use Rattle.series_tables.proofs.Leaves.{number_of, leaves_count, leaves_drop, ch
 use Rattle.dirty_plan.specs.Round.{is_unfinished}
 use Rattle.dirty_plan.specs.declared.job.JobState.{JobState}
 use Rattle.round_works.specs.Making.{settled, settled_from, values_after, volumes_after, IsSumFrom}
-use Rattle.round_works.proofs.Known.{known_after}
+use Rattle.node_compile.proofs.Figures.{items_sized}
 use Rattle.round_works.proofs.Settling.{settled_few}
 
 -- a cell's number is within the cell's size
@@ -133,13 +133,13 @@ settled_sums most plan jobs f item first tallies before few each sum t = elim (c
 pub values_in_range : (plan : PlanShape) (inputs : List Input) (jobs : List JobState) (item first : ℕ) (tallies : List Tally) → item < first → length plan.parents ≤ 512 → All (FitsPlan plan) inputs →
     IsSumOf (settled_from plan jobs (values_after plan inputs) item first) tallies → AreValueSums tallies
 values_in_range plan inputs jobs item first tallies before few fits sum t =
-    let size = settled_sums (10 ^ 24) plan jobs (values_after plan inputs) item first tallies before few (λ i inside. (known_after plan inputs i fits inside).value.sizes) sum t in
+    let size = settled_sums (10 ^ 24) plan jobs (values_after plan inputs) item first tallies before few (λ i inside. (items_sized plan inputs i fits inside).value.sizes) sum t in
     omega (arith, size)
 
 pub volumes_in_range : (plan : PlanShape) (inputs : List Input) (jobs : List JobState) (item first : ℕ) (tallies : List Tally) → item < first → length plan.parents ≤ 512 → All (FitsPlan plan) inputs →
     IsSumOf (settled_from plan jobs (volumes_after plan inputs) item first) tallies → AreVolumeSums tallies
 volumes_in_range plan inputs jobs item first tallies before few fits sum t =
-    let size = settled_sums (10 ^ 15) plan jobs (volumes_after plan inputs) item first tallies before few (λ i inside. (known_after plan inputs i fits inside).prev.sizes) sum t in
+    let size = settled_sums (10 ^ 15) plan jobs (volumes_after plan inputs) item first tallies before few (λ i inside. (items_sized plan inputs i fits inside).prev.sizes) sum t in
     omega (arith, size)
 
 -- what a sum and one child more must be
@@ -155,7 +155,7 @@ pub can_take : (plan : PlanShape) (inputs : List Input) (jobs : List JobState) (
     CanTake (values_after plan inputs child) (volumes_after plan inputs child) sum
 can_take plan inputs jobs item first child sum before inside few fits room made = record {
   children = omega (arith, made.count, settled_few item (drop first plan.parents) (drop first jobs) (map (values_after plan inputs) (range_with_len first (length plan.parents - first))), length-drop first plan.parents);
-  quarters = omega (arith, (known_after plan inputs child fits inside).value.few, room);
+  quarters = omega (arith, (items_sized plan inputs child fits inside).value.few, room);
   values = values_in_range plan inputs jobs item first (with_cells (values_after plan inputs child) sum.value) before few fits made.value;
   volumes = volumes_in_range plan inputs jobs item first (with_cells (volumes_after plan inputs child) sum.prev) before few fits made.prev;
 }

@@ -1,5 +1,3 @@
-pub mod Known
-pub mod Leaves
 pub mod Settling
 pub mod Bounds
 pub mod States

@@ -27,7 +27,7 @@ use Rattle.round_works.specs.Opening.{ShowsOthers, is_other_child}
 use Rattle.round_works.specs.Tables.{shared_table}
 use Rattle.round_works.specs.Works.{table_after}
 use Rattle.round_works.proofs.Bounds.{CanTake, can_take}
-use Rattle.round_works.proofs.Known.{known_after}
+use Rattle.node_compile.proofs.Figures.{items_sized}
 
 -- the settled children from an item on: the item itself where it is one, and those behind it
 settled_at : {X : Type 0} (plan : PlanShape) (jobs : List JobState) (f : ℕ → X) (item first : ℕ) → first < length plan.parents → length jobs ≡ length plan.parents →
@@ -102,13 +102,13 @@ sum_with plan inputs jobs shown item first sum shows inside other from = record 
   room_prev = length-with_cells (volumes_after plan inputs first) sum.prev ∙ from.room_prev;
   count = (let more : sum.children + 1 ≡ suc (length (settled_from plan jobs (values_after plan inputs) item (suc first))) = omega (arith, from.count) in more) ∙ sym (ap length (one_more (values_after plan inputs)));
   value = subst (λ (l : List (List Cell)). IsSumOf l (with_cells (values_after plan inputs first) sum.value)) (sym (one_more (values_after plan inputs)))
-    (sum_more (values_after plan inputs first) (settled_from plan jobs (values_after plan inputs) item (suc first)) sum.value (omega (arith, known.value.few, from.room)) from.value);
+      (sum_more (values_after plan inputs first) (settled_from plan jobs (values_after plan inputs) item (suc first)) sum.value (omega (arith, known.value.few, from.room)) from.value);
   prev = subst (λ (l : List (List Cell)). IsSumOf l (with_cells (volumes_after plan inputs first) sum.prev)) (sym (one_more (volumes_after plan inputs)))
-    (sum_more (volumes_after plan inputs first) (settled_from plan jobs (volumes_after plan inputs) item (suc first)) sum.prev (omega (arith, known.prev.few, from.room_prev)) from.prev);
+      (sum_more (volumes_after plan inputs first) (settled_from plan jobs (volumes_after plan inputs) item (suc first)) sum.prev (omega (arith, known.prev.few, from.room_prev)) from.prev);
 }
   where
     known : IsKnownItem (length (leaves_under plan first)) (table_after plan inputs first)
-    known = known_after plan inputs first shows.fits inside
+    known = items_sized plan inputs first shows.fits inside
 
     one_more : (f : ℕ → List Cell) → settled_from plan jobs f item first ≡ f first ∷ settled_from plan jobs f item (suc first)
     one_more f =

@@ -26,7 +26,7 @@ use Rattle.round_works.specs.declared.work.Compiled.{Compiled}
 use Rattle.round_works.specs.declared.work.Work.{Work}
 use Rattle.round_works.specs.declared.work.Work.TheVariants.{Leaf, Inner}
 use Rattle.round_works.proofs.Bounds.{CanTake, can_take}
-use Rattle.round_works.proofs.Known.{known_after}
+use Rattle.node_compile.proofs.Figures.{items_sized}
 use Rattle.round_works.proofs.States.{ready_waits, within_jobs, works_taken, works_back}
 use Rattle.round_works.proofs.Works.{added_length, part_done, unfinished_at, unfinished_own, works_done}
 
@@ -121,7 +121,7 @@ pub parts_done : (plan : PlanShape) (inputs : List Input) (front : ℕ) (round :
     (added_to parent (values_after plan inputs item) (volumes_after plan inputs item) ready)
 parts_done plan inputs front round kept ready item parent parts all_kept all_ready is e_parent smaller =
     let inside : item < length plan.parents = omega (arith, within_jobs round.jobs item Out is refl, parts.items) in
-    let known = known_after plan inputs item parts.fits inside in
+    let known = items_sized plan inputs item parts.fits inside in
     parts_with plan inputs front round kept ready _ _ item Done parts
     (works_done plan inputs round.jobs kept ready item parent parts.items all_kept all_ready parts.works is e_parent (smaller_parent parent item smaller) known.value.few known.prev.few)
 
@@ -132,7 +132,7 @@ can_add : (plan : PlanShape) (inputs : List Input) (jobs : List JobState) (item 
 can_add plan inputs jobs item k None few fits before inside within own unfinished part = tt
 can_add plan inputs jobs item k (Some (Leaf input)) few fits before inside within own unfinished part = tt
 can_add plan inputs jobs item k (Some (Inner sum)) few fits before inside within own unfinished part =
-    let known = known_after plan inputs k fits inside in
+    let known = items_sized plan inputs k fits inside in
     let made = part_done plan inputs jobs item k (Some (Inner sum)) inside (unfinished_at plan jobs item k before inside within own unfinished) known.value.few known.prev.few part in
     let take = can_take plan inputs (slice_set jobs k Done) item (suc item) k sum (omega arith) inside few fits part.1.room made.1 in
     (take.children, take.quarters, take.values, take.volumes)
@@ -147,9 +147,10 @@ can_add_to plan inputs front round kept ready item (Some p) parts is e smaller =
     let inside : item < length plan.parents = omega (arith, within, parts.items) in
     let own : is_parent p (get_or plan.parents item None) ≡ true = ap (is_parent p) (sym e) ∙ (let same : is_parent p (Some p) ≡ true = grind (arith, nat_tests) in same) in
     let unfinished : is_unfinished (state_of round.jobs item) ≡ true = ap is_unfinished is in
-    let making = parts.works.in_making p (unfinished_own plan round.jobs p item smaller inside within own unfinished) in
-    (can_add plan inputs round.jobs p item (work_at kept p) parts.few parts.fits smaller inside within own unfinished making.0,
-     can_add plan inputs round.jobs p item (work_at ready p) parts.few parts.fits smaller inside within own unfinished making.1)
+    let making = parts.works.in_making p (unfinished_own plan round.jobs p item smaller inside within own unfinished) in (
+      can_add plan inputs round.jobs p item (work_at kept p) parts.few parts.fits smaller inside within own unfinished making.0,
+      can_add plan inputs round.jobs p item (work_at ready p) parts.few parts.fits smaller inside within own unfinished making.1,
+    )
 
 -- what is made of an item's job is the item's table
 pub made_table : (plan : PlanShape) (inputs : List Input) (made : Compiled) → job_made made ≡ job_after plan inputs made.node → shared_table made.table ≡ table_after plan inputs made.node

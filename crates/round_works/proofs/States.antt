@@ -79,14 +79,16 @@ part_same : (plan : PlanShape) (inputs : List Input) (one two : List JobState) (
     IsPartWork plan inputs one item work → IsPartWork plan inputs two item work
 part_same plan inputs one two item None e part = part
 part_same plan inputs one two item (Some (Leaf input)) e part = part
-part_same plan inputs one two item (Some (Inner sum)) e part =
-    (part.0, record {
-      room = part.1.room;
-      room_prev = part.1.room_prev;
-      count = part.1.count ∙ ap length (settled_from_same plan one two (values_after plan inputs) item e);
-      value = subst (λ (l : List (List Cell)). IsSumOf l sum.value) (settled_from_same plan one two (values_after plan inputs) item e) part.1.value;
-      prev = subst (λ (l : List (List Cell)). IsSumOf l sum.prev) (settled_from_same plan one two (volumes_after plan inputs) item e) part.1.prev;
-    })
+part_same plan inputs one two item (Some (Inner sum)) e part = (
+  part.0,
+  record {
+    room = part.1.room;
+    room_prev = part.1.room_prev;
+    count = part.1.count ∙ ap length (settled_from_same plan one two (values_after plan inputs) item e);
+    value = subst (λ (l : List (List Cell)). IsSumOf l sum.value) (settled_from_same plan one two (values_after plan inputs) item e) part.1.value;
+    prev = subst (λ (l : List (List Cell)). IsSumOf l sum.prev) (settled_from_same plan one two (volumes_after plan inputs) item e) part.1.prev;
+  },
+)
 
 -- a ready job waits, and no child of its item has an unfinished one
 pub ready_waits : (parents : List (Option ℕ)) (jobs : List JobState) (item : ℕ) → is_ready parents jobs item ≡ true →
@@ -121,16 +123,18 @@ moved plan inputs jobs kept ready k state slot works before now within none whol
   in_making = λ item some. elim (cases_eq item k) [
     | inl here ↦ absurd (never item here some)
     | inr other ↦
-        let old = works.in_making item (sym (unfinished_as item) ∙ some) in
-        (part_same plan inputs jobs (slice_set jobs k state) item (work_at kept item) (sym same) old.0,
-         part_same plan inputs jobs (slice_set jobs k state) item (work_at (slice_set ready k slot) item) (sym same)
-         (subst (λ (w : Option Work). IsPartWork plan inputs jobs item w) (sym (get_or-set_other ready k item slot None other)) old.1))
+        let old = works.in_making item (sym (unfinished_as item) ∙ some) in (
+          part_same plan inputs jobs (slice_set jobs k state) item (work_at kept item) (sym same) old.0,
+          part_same plan inputs jobs (slice_set jobs k state) item (work_at (slice_set ready k slot) item) (sym same)
+              (subst (λ (w : Option Work). IsPartWork plan inputs jobs item w) (sym (get_or-set_other ready k item slot None other)) old.1),
+        )
   ];
   waiting = λ item waits childless. elim (cases_eq item k) [
     | inl here ↦
-        let at : state ≡ Waiting = sym at_k ∙ ap (state_of (slice_set jobs k state)) (sym here) ∙ waits in
-        (subst (λ (i : ℕ). IsWholeWork plan inputs i (work_at kept i)) (sym here) whole,
-         subst (λ (i : ℕ). IsWholeWork plan inputs i (work_at (slice_set ready k slot) i)) (sym here) (again at))
+        let at : state ≡ Waiting = sym at_k ∙ ap (state_of (slice_set jobs k state)) (sym here) ∙ waits in (
+          subst (λ (i : ℕ). IsWholeWork plan inputs i (work_at kept i)) (sym here) whole,
+          subst (λ (i : ℕ). IsWholeWork plan inputs i (work_at (slice_set ready k slot) i)) (sym here) (again at),
+        )
     | inr other ↦
         let old = works.waiting item (sym (get_or-set_other jobs k item state Clean other) ∙ waits) (sym (unfinished_as item) ∙ childless) in
         (old.0, subst (λ (w : Option Work). IsWholeWork plan inputs item w) (sym (get_or-set_other ready k item slot None other)) old.1)

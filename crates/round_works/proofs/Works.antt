@@ -26,7 +26,7 @@ use Rattle.round_works.specs.Making.{settled, settled_from, values_after, volume
 use Rattle.round_works.specs.Works.{inner_work, work_in, work_after}
 use Rattle.round_works.specs.declared.work.Work.{Work}
 use Rattle.round_works.specs.declared.work.Work.TheVariants.{Leaf, Inner}
-use Rattle.round_works.proofs.Leaves.{values_over_children, volumes_over_children}
+use Rattle.node_compile.proofs.Leaves.{values_over_children, volumes_over_children}
 use Rattle.round_works.proofs.Settling.{sum_settled_more, settled_count, settled_other, whole_cells}
 use Rattle.round_works.proofs.States.{within_jobs}
 
@@ -146,14 +146,16 @@ pub part_done : (plan : PlanShape) (inputs : List Input) (jobs : List JobState) 
     IsPartWork plan inputs (slice_set jobs k Done) item (with_flows (values_after plan inputs k) (volumes_after plan inputs k) slot)
 part_done plan inputs jobs item k None inside at short short_prev part = part
 part_done plan inputs jobs item k (Some (Leaf input)) inside at short short_prev part = part
-part_done plan inputs jobs item k (Some (Inner sum)) inside at short short_prev part =
-    (part.0, record {
-      room = length-with_cells (values_after plan inputs k) sum.value ∙ part.1.room;
-      room_prev = length-with_cells (volumes_after plan inputs k) sum.prev ∙ part.1.room_prev;
-      count = ap (λ (n : ℕ). n + 1) part.1.count ∙ sym (count_done plan jobs (values_after plan inputs) item k inside at);
-      value = settled_done plan jobs (values_after plan inputs) item k sum.value inside at (omega (arith, short, part.1.room)) part.1.value;
-      prev = settled_done plan jobs (volumes_after plan inputs) item k sum.prev inside at (omega (arith, short_prev, part.1.room_prev)) part.1.prev;
-    })
+part_done plan inputs jobs item k (Some (Inner sum)) inside at short short_prev part = (
+  part.0,
+  record {
+    room = length-with_cells (values_after plan inputs k) sum.value ∙ part.1.room;
+    room_prev = length-with_cells (volumes_after plan inputs k) sum.prev ∙ part.1.room_prev;
+    count = ap (λ (n : ℕ). n + 1) part.1.count ∙ sym (count_done plan jobs (values_after plan inputs) item k inside at);
+    value = settled_done plan jobs (values_after plan inputs) item k sum.value inside at (omega (arith, short, part.1.room)) part.1.value;
+    prev = settled_done plan jobs (volumes_after plan inputs) item k sum.prev inside at (omega (arith, short_prev, part.1.room_prev)) part.1.prev;
+  },
+)
 
 -- once no child has an unfinished job, a work in the making is whole
 pub part_whole : (plan : PlanShape) (inputs : List Input) (jobs : List JobState) (item : ℕ) (slot : Option Work) → length jobs ≡ length plan.parents → item < length plan.parents →
@@ -223,14 +225,16 @@ part_other : (plan : PlanShape) (inputs : List Input) (jobs : List JobState) (i 
     IsPartWork plan inputs jobs i slot → IsPartWork plan inputs (slice_set jobs k state) i slot
 part_other plan inputs jobs i k state None other part = part
 part_other plan inputs jobs i k state (Some (Leaf input)) other part = part
-part_other plan inputs jobs i k state (Some (Inner sum)) other part =
-    (part.0, record {
-      room = part.1.room;
-      room_prev = part.1.room_prev;
-      count = part.1.count ∙ sym (ap length (settled_as plan jobs (values_after plan inputs) i k state other));
-      value = subst (λ (l : List (List Cell)). IsSumOf l sum.value) (sym (settled_as plan jobs (values_after plan inputs) i k state other)) part.1.value;
-      prev = subst (λ (l : List (List Cell)). IsSumOf l sum.prev) (sym (settled_as plan jobs (volumes_after plan inputs) i k state other)) part.1.prev;
-    })
+part_other plan inputs jobs i k state (Some (Inner sum)) other part = (
+  part.0,
+  record {
+    room = part.1.room;
+    room_prev = part.1.room_prev;
+    count = part.1.count ∙ sym (ap length (settled_as plan jobs (values_after plan inputs) i k state other));
+    value = subst (λ (l : List (List Cell)). IsSumOf l sum.value) (sym (settled_as plan jobs (values_after plan inputs) i k state other)) part.1.value;
+    prev = subst (λ (l : List (List Cell)). IsSumOf l sum.prev) (sym (settled_as plan jobs (volumes_after plan inputs) i k state other)) part.1.prev;
+  },
+)
 
 -- the parent of an item with an unfinished job has one
 pub unfinished_own : (plan : PlanShape) (jobs : List JobState) (i k : ℕ) → i < k → k < length plan.parents → k < length jobs →
@@ -251,8 +255,9 @@ works_done plan inputs jobs kept ready k parent long all_kept all_ready works is
       let waits : state_of jobs item ≡ Waiting = works.waits item old in
       get_or-set_other jobs k item Done Clean (λ here. let both : Waiting ≡ Out = sym waits ∙ ap (state_of jobs) here ∙ is in cc) ∙ waits;
   in_making = λ item some. (
-      making item (is_parent item (get_or plan.parents k None)) refl some kept all_kept (works.in_making item (before item (is_parent item (get_or plan.parents k None)) refl some)).0,
-      making item (is_parent item (get_or plan.parents k None)) refl some ready all_ready (works.in_making item (before item (is_parent item (get_or plan.parents k None)) refl some)).1);
+    making item (is_parent item (get_or plan.parents k None)) refl some kept all_kept (works.in_making item (before item (is_parent item (get_or plan.parents k None)) refl some)).0,
+    making item (is_parent item (get_or plan.parents k None)) refl some ready all_ready (works.in_making item (before item (is_parent item (get_or plan.parents k None)) refl some)).1,
+  );
   waiting = λ item waits none. whole item (is_parent item (get_or plan.parents k None)) refl (old_state item Waiting waits refl) none;
   out = λ item is_out. still_out item (is_parent item (get_or plan.parents k None)) refl (old_state item Out is_out refl);
 }
@@ -308,15 +313,17 @@ works_done plan inputs jobs kept ready k parent long all_kept all_ready works is
     whole : (item : ℕ) (b : Bool) → is_parent item (get_or plan.parents k None) ≡ b → state_of jobs item ≡ Waiting → has_unfinished_child plan.parents (slice_set jobs k Done) item ≡ false →
         BothPass (IsWholeWork plan inputs item) (added_to parent v p kept) (added_to parent v p ready) item
     whole item false e waits none =
-        let old = works.waiting item waits (sym (unfinished_other plan jobs item k Done e) ∙ none) in
-        (subst (λ (w : Option Work). IsWholeWork plan inputs item w) (sym (added_other parent item v p kept (other_parent item e))) old.0,
-         subst (λ (w : Option Work). IsWholeWork plan inputs item w) (sym (added_other parent item v p ready (other_parent item e))) old.1)
+        let old = works.waiting item waits (sym (unfinished_other plan jobs item k Done e) ∙ none) in (
+          subst (λ (w : Option Work). IsWholeWork plan inputs item w) (sym (added_other parent item v p kept (other_parent item e))) old.0,
+          subst (λ (w : Option Work). IsWholeWork plan inputs item w) (sym (added_other parent item v p ready (other_parent item e))) old.1,
+        )
     whole item true e waits none =
         let less : item < k = smaller item (own item e) in
         let old = works.in_making item (unfinished_own plan jobs item k less inside within e unfinished) in
-        let same : length (slice_set jobs k Done) ≡ length plan.parents = length-set jobs k Done ∙ long in
-        (part_whole plan inputs (slice_set jobs k Done) item (work_at (added_to parent v p kept) item) same (omega (arith, less, inside)) none (with_child_done item e kept all_kept old.0),
-         part_whole plan inputs (slice_set jobs k Done) item (work_at (added_to parent v p ready) item) same (omega (arith, less, inside)) none (with_child_done item e ready all_ready old.1))
+        let same : length (slice_set jobs k Done) ≡ length plan.parents = length-set jobs k Done ∙ long in (
+          part_whole plan inputs (slice_set jobs k Done) item (work_at (added_to parent v p kept) item) same (omega (arith, less, inside)) none (with_child_done item e kept all_kept old.0),
+          part_whole plan inputs (slice_set jobs k Done) item (work_at (added_to parent v p ready) item) same (omega (arith, less, inside)) none (with_child_done item e ready all_ready old.1),
+        )
 
     still_out : (item : ℕ) (b : Bool) → is_parent item (get_or plan.parents k None) ≡ b → state_of jobs item ≡ Out → IsWholeWork plan inputs item (work_at (added_to parent v p kept) item)
     still_out item false e is_out =

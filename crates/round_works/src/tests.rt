@@ -68,10 +68,30 @@ fn send_year(tables: &mut Tables, plan: &Plan, count: u64, leaf: u16, indicator:
     let mut sent = count;
     for period in 0..4_u16 {
         let kind = Kind::Indicator;
-        sent = send(tables, plan, sent, Input { kind, leaf, period, value });
+        sent = send(
+            tables,
+            plan,
+            sent,
+            Input {
+                kind,
+                leaf,
+                period,
+                value,
+            },
+        );
     }
     let kind = Kind::Benchmark;
-    send(tables, plan, sent, Input { kind, leaf, period: 0, value: 4 * value })
+    send(
+        tables,
+        plan,
+        sent,
+        Input {
+            kind,
+            leaf,
+            period: 0,
+            value: 4 * value,
+        },
+    )
 }
 
 /// The round in which FOOD was sent 100 and SERV 200 in each quarter of a year, over a board that shows what they make.

@@ -3,14 +3,16 @@ use Rattle.round_works.proofs.Beginnings.{all_opened, opened_parts, opening_begi
 use Rattle.round_works.proofs.round.OpenRound.open.Goals as goal
 
 pub first_works-requires-clause-inputs : goal.first_works-requires-clause-inputs
-first_works-requires-clause-inputs c =
-    (c.requires.inputs.0,
-     opening_begins c.args.plan.now c.requires.inputs.0 c.args.front c.args.tables.now (has_flag c.args.touched.now) c.args.board.now.shown c.in_ok-jobs.jobs c.requires.inputs.1 c.in_ok-jobs.ensures)
+first_works-requires-clause-inputs c = (
+  c.requires.inputs.0,
+  opening_begins c.args.plan.now c.requires.inputs.0 c.args.front c.args.tables.now (has_flag c.args.touched.now) c.args.board.now.shown c.in_ok-jobs.jobs c.requires.inputs.1 c.in_ok-jobs.ensures,
+)
 
 pub first_works-requires-2-clause-inputs : goal.first_works-requires-2-clause-inputs
-first_works-requires-2-clause-inputs c =
-    (c.requires.inputs.0,
-     opening_begins c.args.plan.now c.requires.inputs.0 c.args.front c.args.tables.now (has_flag c.args.touched.now) c.args.board.now.shown c.in_ok-jobs.jobs c.requires.inputs.1 c.in_ok-jobs.ensures)
+first_works-requires-2-clause-inputs c = (
+  c.requires.inputs.0,
+  opening_begins c.args.plan.now c.requires.inputs.0 c.args.front c.args.tables.now (has_flag c.args.touched.now) c.args.board.now.shown c.in_ok-jobs.jobs c.requires.inputs.1 c.in_ok-jobs.ensures,
+)
 
 pub invariant_of-result : goal.invariant_of-result
 invariant_of-result c = record {
