@@ -19,9 +19,6 @@ named_since-requires-clause-front c =
     let below = front_accepted c.self.inside.plan c.self.inside.history.items c.self.inside.accepted c.self.inside.tables c.self.inside.board c.self.inside.round c.self.invariant.0 in
     omega (arith, below, c.front-front.ensures)
 
-pub open-requires-clause-never : goal.open-requires-clause-never
-open-requires-clause-never c = ?
-
 pub open-requires-clause-leaves : goal.open-requires-clause-leaves
 open-requires-clause-leaves c =
     let named : AreNamed c.deref-2.result.now (inputs_between (inputs_of c.self.inside.history.items) c.self.inside.board.front c.self.inside.accepted) =

@@ -6,9 +6,6 @@ use Rattle.accounts_core.proofs.Handling.{inputs_under}
 use Rattle.accounts_core.proofs.Running.{copied}
 use Rattle.accounts_core.proofs.machine.Core.copy_out.Goals as goal
 
-pub copy_out-requires : goal.copy_out-requires
-copy_out-requires c = ?
-
 pub returns-in-Some : goal.returns-in-Some
 returns-in-Some c =
     subst (λ (s : CoreState). IfOk c.copy_out.result (IsCopyOf s c.args.node)) c.self.view_is

@@ -7,12 +7,6 @@ use Rattle.accounts_core.proofs.Handling.{done_kept, inputs_under, not_out, stat
 use Rattle.accounts_core.proofs.Rounds.{item_within}
 use Rattle.accounts_core.proofs.machine.Core.done.Goals as goal
 
-pub is_made_out-requires : goal.is_made_out-requires
-is_made_out-requires c = ?
-
-pub finish-table-requires-clause-never : goal.finish-table-requires-clause-never
-finish-table-requires-clause-never c = ?
-
 pub stage-requires : goal.stage-requires
 stage-requires c =
     let is : c.self.inside.round ≡ Some c.in-Some.round = sym c.take.ensures.value ∙ c.in-Some.is in

@@ -5,12 +5,6 @@ use Rattle.accounts_core.specs.State.{CoreState, IsOutNow}
 use Rattle.accounts_core.proofs.Handling.{back_kept, inputs_under, not_out, state_of_parts}
 use Rattle.accounts_core.proofs.machine.Core.put_back.Goals as goal
 
-pub is_out-requires : goal.is_out-requires
-is_out-requires c = ?
-
-pub take_back-requires-clause-never : goal.take_back-requires-clause-never
-take_back-requires-clause-never c = ?
-
 pub invariant_of-self-then-is_out : goal.invariant_of-self-then-is_out
 invariant_of-self-then-is_out c =
     let is : c.self.inside.round ≡ Some c.in-Some.round = sym c.take.ensures.value ∙ c.in-Some.is in

@@ -5,9 +5,6 @@ use Rattle.accounts_core.specs.Step.{Takes}
 use Rattle.accounts_core.proofs.Handling.{inputs_under, state_of_parts, take_kept, take_step}
 use Rattle.accounts_core.proofs.machine.Core.take.Goals as goal
 
-pub hand_out-job-requires : goal.hand_out-job-requires
-hand_out-job-requires c = ?
-
 pub invariant_of-self-in-Some : goal.invariant_of-self-in-Some
 invariant_of-self-in-Some c =
     let is : c.self.inside.round ≡ Some c.in-Some.round = sym c.take.ensures.value ∙ c.in-Some.is in
