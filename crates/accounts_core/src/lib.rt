@@ -14,5 +14,5 @@ pub use machine::Core;
 pub use replies::{Accept, Begin, Done, Publish, PutBack, Take};
 pub use round_works::{CompileEnd, Compiled, Job, Work, compile};
 
-
-
+#[cfg(test)]
+mod tests;
