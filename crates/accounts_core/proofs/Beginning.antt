@@ -1,11 +1,11 @@
 -- A round that begins, and the core with which all begins.
 use Rattle.std.proofs.Common.{◌≡◌, ◌∙◌, ap, sym, refl, subst, ℕ, zero, suc, ◌+◌, ◌≤◌, ◌<◌, Bool, true, false, ◌||◌, List, [], ◌∷◌, length, map, take, drop, replicate, get_or, Option, Some, None, arith}
 use Rattle.std.proofs.lemmas.Bool.Decides.{nat_tests}
-use Rattle.std.specs.Prelude.{All, IsFalse, IsTrue, ◌==◌, ◌≢◌, slice_get}
+use Rattle.std.specs.Prelude.{All, Err, IfOk, IsFalse, Ok, Result, IsTrue, ◌==◌, ◌≢◌, slice_get}
 use Rattle.std.specs.List.{list_any}
 use Rattle.std.specs.Option.{option_map}
 use Rattle.std.proofs.Math.Path.{fun_ext}
-use Rattle.std.proofs.lemmas.List.{take_all}
+use Rattle.std.proofs.lemmas.List.{length-map, take_all}
 use Rattle.std.proofs.Math.Seq.{take-nil}
 use Rattle.std.proofs.lemmas.List.Elements.{All-drop, All-head, All-tail, All-take}
 use Rattle.std.proofs.lemmas.List.FromFn.{get_or-map-range_with_len}
@@ -20,7 +20,7 @@ use Rattle.dirty_plan.specs.Round.{first_state, has_flag, is_job, job_count, ope
 use Rattle.dirty_plan.specs.Touched.{NamesLeaves, inputs_between, is_touched, names_leaf}
 use Rattle.dirty_plan.specs.declared.job.JobState.{JobState}
 use Rattle.dirty_plan.specs.declared.job.JobState.TheVariants.{Clean, Waiting}
-use Rattle.vintage_board.specs.Board.{BoardOf}
+use Rattle.vintage_board.specs.Board.{BoardOf, first_board}
 use Rattle.node_compile.specs.Release.{compilation}
 use Rattle.node_compile.specs.Table.{Table}
 use Rattle.accounts_history.specs.History.{IsLawful, front_of, inputs_of, journal}
@@ -37,7 +37,7 @@ use Rattle.accounts_core.specs.State.{CoreState, next_round}
 use Rattle.accounts_core.specs.Step.{Begins}
 use Rattle.accounts_core.specs.declared.replies.Begin.TheVariants.{Opened}
 use Rattle.accounts_core.proofs.Handling.{state_of_parts}
-use Rattle.accounts_core.proofs.Lists.{none_at}
+use Rattle.accounts_core.proofs.Lists.{length-none, none_at}
 use Rattle.accounts_core.proofs.Untouched.{untouched_stay}
 
 -- inputs that fit a plan name leaves
@@ -73,8 +73,8 @@ opening plan history accepted rows board round flags kept named = record {
   clean = λ item inside clean.
       ap (λ (ts : List Table). slice_get ts item) kept.published.tables
       ∙ untouched_stay plan (inputs_of history) board.front accepted item (omega (arith, bounds.accepted, kept.count, kept.front))
-        (omega (arith, kept.count, length-inputs_of history)) (omega (arith, inside, kept.parents))
-        (subst (λ (f : ℕ → Bool). IsFalse (is_touched plan f item)) (flags_are flags (inputs_between (inputs_of history) board.front accepted) named) clean)
+      (omega (arith, kept.count, length-inputs_of history)) (omega (arith, inside, kept.parents))
+      (subst (λ (f : ℕ → Bool). IsFalse (is_touched plan f item)) (flags_are flags (inputs_between (inputs_of history) board.front accepted) named) clean)
       ∙ ap (λ (inputs : List Input). slice_get (compilation plan inputs) item) (take_accepted plan history accepted rows board round kept);
 }
   where
@@ -138,9 +138,9 @@ begin_kept plan history accepted rows board round flags r kept none more named i
       staged = λ item inside.
           subst (λ (js : List JobState). IsStaged plan (inputs_of history) item (state_of js item) (staged_at board item)) (sym jobs)
           (subst (λ (s : JobState). IsStaged plan (inputs_of history) item s (staged_at board item))
-           (sym (state_first plan (names_leaf (inputs_between (inputs_of history) board.front accepted)) item (omega (arith, inside, kept.parents))))
-           (staged_none plan (inputs_of history) item (is_touched plan (names_leaf (inputs_between (inputs_of history) board.front accepted)) item) (staged_at board item)
-            (ap (λ (slots : List (Option Shared)). get_or slots item None) (kept.nothing_staged none) ∙ none_at Shared (length plan.names) item)));
+          (sym (state_first plan (names_leaf (inputs_between (inputs_of history) board.front accepted)) item (omega (arith, inside, kept.parents))))
+          (staged_none plan (inputs_of history) item (is_touched plan (names_leaf (inputs_between (inputs_of history) board.front accepted)) item) (staged_at board item)
+          (ap (λ (slots : List (Option Shared)). get_or slots item None) (kept.nothing_staged none) ∙ none_at Shared (length plan.names) item)));
     }
 
 -- the core of a plan before anything was accepted
@@ -170,9 +170,25 @@ named_from flags same given history front shown accepted named one two three =
 pub begin_step : (plan : PlanShape) (history next : List Entry) (accepted : ℕ) (rows : Rows) (board : BoardOf Shared) (round : Option OpenRound) (flags : List Bool) (r : OpenRound) (jobs : ℕ) → IsKept plan history accepted rows board round
     → round ≡ None → accepted ≢ board.front → AreNamed flags (inputs_between (inputs_of history) board.front accepted) → round_in r ≡ opened plan accepted (has_flag flags)
     → jobs ≡ job_count (round_in r).jobs → next ≡ history → Begins (state_of_parts plan history round) (Opened accepted jobs) (state_of_parts plan next (Some r))
-begin_step plan history next accepted rows board round flags r jobs kept none more named is counted same =
-    (ap (option_map round_in) none, (λ e. more (kept.count ∙ e ∙ sym kept.front)), kept.count, counted ∙ ap (λ (o : Round). job_count o.jobs) begins,
-     ap (λ (h : List Entry). state_of_parts plan h (Some r)) same ∙ ap (λ (o : Round). let state : CoreState = record { plan = plan; history = history; round = Some o } in state) begins)
+begin_step plan history next accepted rows board round flags r jobs kept none more named is counted same = (
+  ap (option_map round_in) none,
+  (λ e. more (kept.count ∙ e ∙ sym kept.front)),
+  kept.count,
+  counted ∙ ap (λ (o : Round). job_count o.jobs) begins,
+  ap (λ (h : List Entry). state_of_parts plan h (Some r)) same ∙ ap (λ (o : Round). let state : CoreState = record { plan = plan; history = history; round = Some o } in state) begins,
+)
   where
     begins : round_in r ≡ next_round (state_of_parts plan history round)
     begins = begun plan history accepted rows board round flags r kept named is
+
+-- the board with which a core begins
+pub first_board_is : {E : Type 0} (plan : PlanShape) (nodes : List Shared) (reply : Result (BoardOf Shared) E) → map shared_table nodes ≡ compilation plan [] → length (map shared_table nodes) ≡ length plan.names
+    → IfOk reply (λ board. board ≡ first_board nodes) → IfOk reply (IsFirstBoard plan)
+first_board_is plan nodes (Err error) tables all is = is
+first_board_is plan nodes (Ok board) tables all is =
+    let long : length nodes ≡ length plan.names = sym (length-map nodes shared_table) ∙ all in
+    subst (IsFirstBoard plan) (sym is) (record {
+      front = refl;
+      shown = record { tables = tables; shown = long; staged = length-none Shared (length nodes) ∙ long };
+      nothing_staged = ap (λ (n : ℕ). replicate n None) long;
+    })

@@ -18,6 +18,7 @@ sum_by-past f g k first (suc count) before same =
     let head : f first ≡ g first = same first (λ e. omega (arith, before, e)) in
     let tail : sum_by f (range_with_len (first + 1) count) ≡ sum_by g (range_with_len (first + 1) count) = sum_by-past f g k (first + 1) count (omega arith) same in
     sum_by-cons f first (range_with_len (first + 1) count) ∙ ap (λ (n : ℕ). n + sum_by f (range_with_len (first + 1) count)) head ∙ ap (λ (n : ℕ). g first + n) tail ∙ sym (sum_by-cons g first (range_with_len (first + 1) count))
+
 -- two sums over a range that differ at one number alone
 sum_by-but_one : (f g : ℕ → ℕ) (k first count : ℕ) → first ≤ k → k < first + count → ((item : ℕ) → item ≢ k → f item ≡ g item)
     → sum_by f (range_with_len first count) + g k ≡ sum_by g (range_with_len first count) + f k
@@ -45,7 +46,7 @@ cost_done cost jobs k count inside within left =
     let here : cost_of cost (slice_set jobs k Done) k ≡ 0 = ap (λ (s : JobState). cond (is_unfinished s) (cost k) 0) (get_or-set_same jobs k Done Clean within) in
     let was : cost_of cost jobs k ≡ cost k = ap (λ (b : Bool). cond b (cost k) 0) left in
     let both = sum_by-but_one (cost_of cost (slice_set jobs k Done)) (cost_of cost jobs) k 0 count (omega arith) (omega (arith, inside))
-        (λ item other. ap (λ (s : JobState). cond (is_unfinished s) (cost item) 0) (get_or-set_other jobs k item Done Clean other)) in
+    (λ item other. ap (λ (s : JobState). cond (is_unfinished s) (cost item) 0) (get_or-set_other jobs k item Done Clean other)) in
     omega (arith, both, here, was)
 
 -- an item whose job is left is one of all

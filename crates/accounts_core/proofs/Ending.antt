@@ -46,7 +46,7 @@ none_of_last parents jobs none_out none_ready (suc last) item past = elim (cases
   | inl below ↦
       by (state_of jobs item) refl (none_ready item below)
       (none_open item (drop (suc item) parents) (drop (suc item) jobs)
-       (λ k. ap is_unfinished (get_or-drop (suc item) jobs k Clean) ∙ none_of_last parents jobs none_out none_ready last (suc item + k) (omega (arith, past))))
+      (λ k. ap is_unfinished (get_or-drop (suc item) jobs k Clean) ∙ none_of_last parents jobs none_out none_ready last (suc item + k) (omega (arith, past))))
   | inr behind ↦ ap is_unfinished (get_or_past jobs item Clean behind)
 ]
   where
@@ -68,11 +68,15 @@ pub record StaysOpen (old new : CoreState) : Type 0 where
 
 stays_from : (plan : PlanShape) (history : List Entry) (round : Option Round) (new : CoreState) (jobs : List JobState) → new ≡ with_jobs (core_of plan history round) jobs → StaysOpen (core_of plan history round) new
 stays_from plan history None new jobs e = record {
-  plan = ap (λ (s : CoreState). s.plan) e; history = ap (λ (s : CoreState). s.history) e; front = ap next_front e;
+  plan = ap (λ (s : CoreState). s.plan) e;
+  history = ap (λ (s : CoreState). s.history) e;
+  front = ap next_front e;
   is_open = λ none. absurd (none refl);
 }
 stays_from plan history (Some r) new jobs e = record {
-  plan = ap (λ (s : CoreState). s.plan) e; history = ap (λ (s : CoreState). s.history) e; front = ap next_front e;
+  plan = ap (λ (s : CoreState). s.plan) e;
+  history = ap (λ (s : CoreState). s.history) e;
+  front = ap next_front e;
   is_open = λ some none. (let never : Some (record { front = r.front; jobs = jobs }) ≡ None = sym (ap (λ (s : CoreState). s.round) e) ∙ none in cc);
 }
 
@@ -92,12 +96,18 @@ begun_from : (plan : PlanShape) (history : List Entry) (round : Option Round) (n
     → (new.round ≢ None) × (new.plan ≡ plan) × (new.history ≡ history) × (next_front new ≡ next_front (core_of plan history round))
 begun_from plan history round new (Nothing front) begins never = absurd (never front refl)
 begun_from plan history None new (RoundOpen front) begins never = absurd (begins.0)
-begun_from plan history (Some r) new (RoundOpen front) begins never =
-    ((λ none. (let no : Some r ≡ None = sym (ap (λ (s : CoreState). s.round) begins.1) ∙ none in cc)),
-     ap (λ (s : CoreState). s.plan) begins.1, ap (λ (s : CoreState). s.history) begins.1, ap next_front begins.1)
-begun_from plan history None new (Opened front jobs) begins never =
-    ((λ none. (let no : Some (next_round (core_of plan history None)) ≡ None = sym (ap (λ (s : CoreState). s.round) begins.4) ∙ none in cc)),
-     ap (λ (s : CoreState). s.plan) begins.4, ap (λ (s : CoreState). s.history) begins.4, ap next_front begins.4)
+begun_from plan history (Some r) new (RoundOpen front) begins never = (
+  (λ none. (let no : Some r ≡ None = sym (ap (λ (s : CoreState). s.round) begins.1) ∙ none in cc)),
+  ap (λ (s : CoreState). s.plan) begins.1,
+  ap (λ (s : CoreState). s.history) begins.1,
+  ap next_front begins.1,
+)
+begun_from plan history None new (Opened front jobs) begins never = (
+  (λ none. (let no : Some (next_round (core_of plan history None)) ≡ None = sym (ap (λ (s : CoreState). s.round) begins.4) ∙ none in cc)),
+  ap (λ (s : CoreState). s.plan) begins.4,
+  ap (λ (s : CoreState). s.history) begins.4,
+  ap next_front begins.4,
+)
 begun_from plan history (Some r) new (Opened front jobs) begins never = absurd (let no : Some r ≡ None = begins.0 in cc)
 
 pub begun_open : (old new : CoreState) (reply : BeginReply) → Begins old reply new → ((front : ℕ) → reply ≢ Nothing front)
@@ -110,14 +120,16 @@ ended_from : (plan : PlanShape) (history : List Entry) (round : Option Round) (n
 ended_from plan history None new party reply publishes some none = absurd (some refl)
 ended_from plan history (Some r) new party NoRound publishes some none = absurd (some publishes.0)
 ended_from plan history (Some r) new party (WaitingFor item) publishes some none = absurd (let never : false ≡ true = sym (none item) ∙ publishes.0.passes in cc)
-ended_from plan history (Some r) new party (Published front) publishes some none =
-    (ap (λ (s : CoreState). published s) publishes.2 ∙ front_of-publish history party r.front _, ap (λ (s : CoreState). s.round) publishes.2,
-     record {
-       plan = ap (λ (s : CoreState). s.plan) publishes.2;
-       added = Publish party r.front _ ∷ [];
-       publications = All-cons (IsPublicationOf party) (Publish party r.front _) [] refl (All-nil (IsPublicationOf party));
-       history = ap (λ (s : CoreState). s.history) publishes.2;
-     })
+ended_from plan history (Some r) new party (Published front) publishes some none = (
+  ap (λ (s : CoreState). published s) publishes.2 ∙ front_of-publish history party r.front _,
+  ap (λ (s : CoreState). s.round) publishes.2,
+  record {
+    plan = ap (λ (s : CoreState). s.plan) publishes.2;
+    added = Publish party r.front _ ∷ [];
+    publications = All-cons (IsPublicationOf party) (Publish party r.front _) [] refl (All-nil (IsPublicationOf party));
+    history = ap (λ (s : CoreState). s.history) publishes.2;
+  },
+)
 
 pub ended : (old new : CoreState) (party : ℕ) (reply : PublishReply) → Publishes old party reply new → old.round ≢ None → NoneLeft (jobs_now old)
     → (published new ≡ next_front old) × (new.round ≡ None) × HasOnlyPublished party old new
@@ -130,9 +142,9 @@ touched_from plan history None sound some = absurd (some refl)
 touched_from plan history (Some r) sound some =
     cost_touched (item_steps (core_of plan history (Some r)) r.front) r.jobs (is_touched_between plan (inputs_of history) (front_of history) r.front) (items_of plan)
     (λ item left.
-        let within : item < length r.jobs = left_within r.jobs item left in
-        let inside : item < length plan.parents = omega (arith, within, (sound.round r refl).items) in
-        sym ((sound.round r refl).touched item inside) ∙ unfinished_job (state_of r.jobs item) left)
+    let within : item < length r.jobs = left_within r.jobs item left in
+    let inside : item < length plan.parents = omega (arith, within, (sound.round r refl).items) in
+    sym ((sound.round r refl).touched item inside) ∙ unfinished_job (state_of r.jobs item) left)
   where
     unfinished_job : (s : JobState) → is_unfinished s ≡ true → is_job s ≡ true
     unfinished_job Clean e = e
@@ -212,10 +224,10 @@ pub steps_twice : (old between : CoreState) (before middle after : ℕ) → IsRo
 steps_twice old between before middle after first only one two =
     let ahead : next_front between ≡ accepted old = next_accepted between first.closed ∙ same_accepted old between only in
     let same : steps_between between (published between) (next_front between) ≡ steps_between old (next_front old) (accepted old) =
-        ap (λ (p : PlanShape). steps_over p (inputs_of between.history) (published between) (next_front between)) only.plan
-        ∙ ap (λ (inputs : List Input). steps_over old.plan inputs (published between) (next_front between)) (same_inputs old between only)
-        ∙ ap (λ (n : ℕ). steps_over old.plan (inputs_of old.history) n (next_front between)) first.published
-        ∙ ap (λ (n : ℕ). steps_over old.plan (inputs_of old.history) (next_front old) n) ahead in
+    ap (λ (p : PlanShape). steps_over p (inputs_of between.history) (published between) (next_front between)) only.plan
+    ∙ ap (λ (inputs : List Input). steps_over old.plan inputs (published between) (next_front between)) (same_inputs old between only)
+    ∙ ap (λ (n : ℕ). steps_over old.plan (inputs_of old.history) n (next_front between)) first.published
+    ∙ ap (λ (n : ℕ). steps_over old.plan (inputs_of old.history) (next_front old) n) ahead in
     omega (arith, one, two, same)
 
 -- a fact at success follows from another

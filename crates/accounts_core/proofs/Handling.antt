@@ -68,8 +68,8 @@ take_kept plan history accepted rows board round r new None kept is hands over =
 take_kept plan history accepted rows board round r new (Some job) kept is hands over =
     round_kept plan history accepted rows board board round r new kept refl refl refl (ap (λ (o : Round). o.front) hands.2)
     (open_set plan board.front (inputs_under history r) board board r new job.node Out is_open hands.2 over (sym (ap is_job waits)) within
-     (subst (λ (s : JobState). IsStaged plan (inputs_under history r) job.node s (staged_at board job.node)) waits (is_open.staged job.node inside))
-     (λ item other. refl))
+    (subst (λ (s : JobState). IsStaged plan (inputs_under history r) job.node s (staged_at board job.node)) waits (is_open.staged job.node inside))
+    (λ item other. refl))
   where
     is_open : IsOpen plan board.front (inputs_under history r) board r
     is_open = kept.open_round r is
@@ -91,9 +91,10 @@ take_step plan history round r new job reply is e hands =
     (subst (λ (t : TakeReply). Takes (state_of_parts plan history (Some r)) t (state_of_parts plan history (Some new))) (sym e) (by job hands))
   where
     by : (o : Option Job) → HandsOut plan (inputs_under history r) (round_in r) o (round_in new) → Takes (state_of_parts plan history (Some r)) (taken_of o) (state_of_parts plan history (Some new))
-    by None h =
-        (λ q same. subst (λ (o : Round). IsNoneReady (state_of_parts plan history (Some r)) o) (let one : round_in r ≡ q = cc in one) h.0,
-         same_state plan history (round_in new) (round_in r) h.1)
+    by None h = (
+      λ q same. subst (λ (o : Round). IsNoneReady (state_of_parts plan history (Some r)) o) (let one : round_in r ≡ q = cc in one) h.0,
+      same_state plan history (round_in new) (round_in r) h.1,
+    )
     by (Some j) h = (h.0, h.1, same_state plan history (round_in new) (with_job (round_in r) j.node Out) h.2)
 
 -- a job that is out comes back
@@ -103,9 +104,9 @@ pub back_kept : (plan : PlanShape) (history : List Entry) (accepted : ℕ) (rows
 back_kept plan history accepted rows board round r new job kept is out set over =
     round_kept plan history accepted rows board board round r new kept refl refl refl (ap (λ (o : Round). o.front) set)
     (open_set plan board.front (inputs_under history r) board board r new job.node Waiting is_open set over (sym (ap is_job out.0)) (within_jobs (round_in r).jobs job.node Out out.0 refl)
-     (subst (λ (s : JobState). IsStaged plan (inputs_under history r) job.node s (staged_at board job.node)) out.0
-      (is_open.staged job.node (item_within plan board.front (inputs_under history r) board r job.node Out is_open out.0 refl)))
-     (λ item other. refl))
+    (subst (λ (s : JobState). IsStaged plan (inputs_under history r) job.node s (staged_at board job.node)) out.0
+    (is_open.staged job.node (item_within plan board.front (inputs_under history r) board r job.node Out is_open out.0 refl)))
+    (λ item other. refl))
   where
     is_open : IsOpen plan board.front (inputs_under history r) board r
     is_open = kept.open_round r is
@@ -130,9 +131,9 @@ pub done_kept : (plan : PlanShape) (history : List Entry) (accepted : ℕ) (rows
 done_kept plan history accepted rows board next round r new made table kept is out set over worth staged =
     subst (λ (b : BoardOf Shared). IsKept plan history accepted rows b (Some new)) (sym staged)
     (round_kept plan history accepted rows board (with_staged board made.node table) round r new kept refl refl (length-set board.staged made.node (Some table)) (ap (λ (o : Round). o.front) set)
-     (open_set plan board.front (inputs_under history r) board (with_staged board made.node table) r new made.node Done is_open set over (sym (ap is_job out.0))
-      (within_jobs (round_in r).jobs made.node Out out.0 refl) here
-      (λ item other. get_or-set_other board.staged made.node item (Some table) None other)))
+    (open_set plan board.front (inputs_under history r) board (with_staged board made.node table) r new made.node Done is_open set over (sym (ap is_job out.0))
+    (within_jobs (round_in r).jobs made.node Out out.0 refl) here
+    (λ item other. get_or-set_other board.staged made.node item (Some table) None other)))
   where
     is_open : IsOpen plan board.front (inputs_under history r) board r
     is_open = kept.open_round r is

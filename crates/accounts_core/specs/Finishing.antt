@@ -1,5 +1,6 @@
 -- What finishing the rounds does, call by call, and what it takes.
-use Rattle.std.specs.Prelude.{◌≡◌, ◌≢◌, ℕ, ◌+◌, ◌<◌, ◌≤◌, Bool, true, false, IsFalse, IsTrue, List, [], ◌++◌, All, length, slice_set, sum_by, take, if◌then◌else◌, Option, Some, None}
+use Rattle.std.specs.Prelude.{◌≡◌, ◌≢◌, ℕ, ◌+◌, ◌<◌, ◌≤◌, Bool, true, false, IsFalse, IsTrue, List, [], ◌++◌}
+use Rattle.std.specs.Prelude.{All, length, slice_set, sum_by, take, if◌then◌else◌, Option, Some, None}
 use Rattle.std.specs.Option.{ForSome, IsSomeAnd, option_map}
 use Rattle.series_tables.specs.Plan.{PlanShape}
 use Rattle.series_tables.specs.declared.input.Input.{Input}
@@ -96,14 +97,15 @@ pub record IsBack (item : ℕ) (old new : List JobState) : Type 0 where
 
 -- a copy of an item's job that is out now, or none where it isn't
 abbrev pub IsCopyOf : CoreState → ℕ → Option Job → Type 0
-IsCopyOf state item None = ForSome state.round (λ round. IsCopyOut state.plan (inputs_to state round.front) round item None)
+IsCopyOf state item None =
+    ForSome state.round (λ round. IsCopyOut state.plan (inputs_to state round.front) round item None)
 IsCopyOf state item (Some job) =
     IsSomeAnd state.round (λ round. IsCopyOut state.plan (inputs_to state round.front) round item (Some job))
 
 -- the most steps of the jobs that aren't done
 abbrev pub steps_left : CoreState → ℕ
-steps_left state = sum_by (λ item. if is_left (jobs_now state) item then item_steps state (next_front state) item else 0)
-    (items_of state.plan)
+steps_left state = sum_by (λ item.
+    if is_left (jobs_now state) item then item_steps state (next_front state) item else 0) (items_of state.plan)
 
 -- the most steps of a job
 abbrev pub work_steps : Job → ℕ

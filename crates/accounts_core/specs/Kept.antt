@@ -1,5 +1,6 @@
 -- What the core keeps beside what it stands for, and what holds of it.
-use Rattle.std.specs.Prelude.{◌≡◌, ℕ, ◌<◌, List, [], map, take, drop, length, replicate, slice_index_or, Option, Some, None}
+use Rattle.std.specs.Prelude.{◌≡◌, ℕ, ◌<◌, List, [], map, take, drop, length, replicate, slice_index_or}
+use Rattle.std.specs.Prelude.{Option, Some, None}
 use Rattle.std.specs.declared.alloc.Global.{Global}
 use Rattle.std.specs.declared.sync.Arc.{Arc}
 use Rattle.series_tables.specs.Cells.{Rows, cell}
@@ -38,10 +39,12 @@ staged_at board item = slice_index_or board.staged item None
 
 -- the jobs of a round are those of the items that were touched since so many inputs
 abbrev pub AreTouched : PlanShape → ℕ → List Input → List JobState → Type 0
-AreTouched plan published inputs jobs = map is_job jobs ≡ map is_job (opened_jobs plan (names_leaf (drop published inputs)))
+AreTouched plan published inputs jobs =
+    map is_job jobs ≡ map is_job (opened_jobs plan (names_leaf (drop published inputs)))
 
 -- a round is open over these inputs, of which so many are published, and what is staged on the board is what it made
-pub record IsOpen (plan : PlanShape) (published : ℕ) (inputs : List Input) (board : BoardOf Shared) (round : OpenRound) : Type 0 where
+pub record IsOpen (plan : PlanShape) (published : ℕ) (inputs : List Input) (board : BoardOf Shared)
+    (round : OpenRound) : Type 0 where
   pub over : IsRoundOver plan inputs round
   pub above : published < (round_in round).front
   pub touched : AreTouched plan published inputs (round_in round).jobs
@@ -55,13 +58,15 @@ pub record IsShown (plan : PlanShape) (inputs : List Input) (board : BoardOf Sha
   pub staged : length board.staged ≡ length plan.names
 
 -- what holds of the parts of a core
-pub record IsKept (plan : PlanShape) (history : List Entry) (accepted : ℕ) (rows : Rows) (board : BoardOf Shared) (round : Option OpenRound) : Type 0 where
+pub record IsKept (plan : PlanShape) (history : List Entry) (accepted : ℕ) (rows : Rows) (board : BoardOf Shared)
+    (round : Option OpenRound) : Type 0 where
   pub parents : length plan.parents ≡ length plan.names
   pub lawful : IsLawful plan history
   pub count : accepted ≡ length (journal history)
   pub front : board.front ≡ front_of history
   pub items : rows.items ≡ length plan.names
-  pub values : (kind : Kind) (leaf period : ℕ) → cell rows kind leaf period ≡ last_value (inputs_of history) kind leaf period
+  pub values : (kind : Kind) (leaf period : ℕ) →
+      cell rows kind leaf period ≡ last_value (inputs_of history) kind leaf period
   pub published : IsShown plan (take board.front (inputs_of history)) board
   pub open_round : (r : OpenRound) → round ≡ Some r →
       IsOpen plan board.front (take (round_in r).front (inputs_of history)) board r

@@ -7,8 +7,8 @@ use Rattle.accounts_history.specs.History.{IsLawful, inputs_of}
 use Rattle.round_works.specs.Rounds.{Round}
 use Rattle.accounts_core.specs.State.{CoreState, accepted, published}
 
--- an open round goes up to a front above the published one that was accepted, and has a job for each item that is touched
--- between the two, and for no other
+-- an open round goes up to a front above the published one that was accepted, and has a job for each item that is
+-- touched between the two, and for no other
 pub record IsSoundRound (state : CoreState) (round : Round) : Type 0 where
   pub above : published state < round.front
   pub within : round.front ≤ accepted state

@@ -1,4 +1,5 @@
--- What the core stands for: its plan, its history and its open round. No table is a part of it. It is this product's own.
+-- What the core stands for: its plan, its history and its open round. No table is a part of it. It is this product's
+-- own.
 use Rattle.std.specs.Prelude.{◌≡◌, ℕ, List, [], ◌∷◌, ◌++◌, take, length, Option, Some, None}
 use Rattle.std.specs.Option.{IsSomeAnd}
 use Rattle.series_tables.specs.Plan.{PlanShape}
@@ -42,12 +43,14 @@ with_round state round = record { plan = state.plan; history = state.history; ro
 abbrev pub with_job_at : CoreState → Round → ℕ → JobState → CoreState
 with_job_at state round item job = with_round state (Some (with_job round item job))
 
--- the round that begins: up to all that was accepted, with a job for each item that was touched since the published front
+-- the round that begins: up to all that was accepted, with a job for each item that was touched since the published
+-- front
 abbrev pub next_round : CoreState → Round
 next_round state = opened state.plan (accepted state)
     (names_leaf (inputs_between (inputs_of state.history) (published state) (accepted state)))
 
--- a job is out in an open round: its item's is, and its front, its reference year and its work are those of the item there
+-- a job is out in an open round: its item's is, and its front, its reference year and its work are those of the item
+-- there
 abbrev pub IsOutAt : CoreState → ItemJob → Round → Type 0
 IsOutAt state job round = IsOut state.plan (inputs_to state round.front) round job
 

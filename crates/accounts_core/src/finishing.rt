@@ -3,7 +3,8 @@
 ghost use Rattle.std.specs.Prelude.{◌≡◌, ◌≤◌, ◌+◌, IfOk, OnOk};
 ghost use Rattle.accounts_core.specs.Finishing.{HasOnlyPublished, IsBack, IsFinished, IsRoundEnded, IsSameRound};
 ghost use Rattle.accounts_core.specs.Finishing.{NoneLeft, NoneOut, RunsOne, jobs_now};
-ghost use Rattle.accounts_core.specs.Finishing.{next_front, steps_ahead, steps_between, steps_left, with_state_of, work_steps};
+ghost use Rattle.accounts_core.specs.Finishing.{next_front, steps_ahead, steps_between, steps_left};
+ghost use Rattle.accounts_core.specs.Finishing.{with_state_of, work_steps};
 ghost use Rattle.accounts_core.specs.Run.{Reaches};
 ghost use Rattle.accounts_core.specs.State.{IsOutNow, published as published_of};
 ghost use Rattle.dirty_plan.specs.declared.job.JobState.TheVariants.{Done};

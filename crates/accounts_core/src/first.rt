@@ -1,6 +1,6 @@
 //! The board with which a core begins.
 
-ghost use Rattle.std.specs.Prelude.{◌≡◌, ◌<◌, [], ℕ, None, length, IfOk};
+ghost use Rattle.std.specs.Prelude.{◌≡◌, ◌<◌, ℕ, None, length, IfOk};
 ghost use Rattle.accounts_core.specs.Kept.{IsFirstBoard};
 ghost use Rattle.series_tables.specs.Cells.{cell};
 ghost use Rattle.series_tables.specs.declared.input.Kind.{Kind};

@@ -1,5 +1,5 @@
-//! The event core of the accounts: inputs are accepted, rounds of jobs compile them, and releases are published. It is a
-//! machine of steps without threads, which whoever holds it drives.
+//! The event core of the accounts: inputs are accepted, rounds of jobs compile them, and releases are published. It is
+//! a machine of steps without threads, which whoever holds it drives.
 #![tactic(auto)]
 
 mod finishing;

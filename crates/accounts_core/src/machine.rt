@@ -4,7 +4,6 @@ ghost use Rattle.std.specs.Prelude.{◌≡◌, ◌<◌, length, IfOk, OnErr};
 ghost use Rattle.accounts_history.specs.History.{IsLawful, MayFollow};
 ghost use Rattle.accounts_core.specs.State.{accepted as accepted_of, first_core, published as published_of};
 ghost use Rattle.accounts_core.specs.Step.{Accepts, Begins, HandsIn, Publishes, PutsBack, Reads, ReadsAll, Takes};
-
 ghost use Rattle.accounts_core.specs.Finishing.{IsCopyOf};
 ghost use Rattle.accounts_core.specs.Sound.{IsSound};
 ghost use Rattle.accounts_core.specs.Step.{taken_of};
@@ -109,7 +108,8 @@ impl Core {
         &self.history
     }
 
-    /// Law: the history is lawful, and an open round compiles what was touched between the published front and a later one.
+    /// Law: the history is lawful, and an open round compiles what was touched between the published front and a later
+    /// one.
     pub fn stays_sound(&self)
         ensures { IsSound self.now }
     {
@@ -169,7 +169,14 @@ impl Core {
         }
         let touched = named_since(self.alloc, &self.plan, &self.history, front, self.accepted)?;
         self.history.reserve(1)?;
-        let round = OpenRound::open(self.alloc, &self.plan, &self.tables, self.accepted, &touched, &self.board)?;
+        let round = OpenRound::open(
+            self.alloc,
+            &self.plan,
+            &self.tables,
+            self.accepted,
+            &touched,
+            &self.board,
+        )?;
         let jobs = round.jobs();
         self.round = Some(round);
         Ok(Begin::Opened {
@@ -247,7 +254,8 @@ impl Core {
                     let front = round.front();
                     let jobs = round.jobs();
                     self.board.put(front);
-                    self.history.push_reserved(Entry::Publish { party, front, jobs });
+                    self.history
+                        .push_reserved(Entry::Publish { party, front, jobs });
                     Publish::Published(front)
                 }
             },

@@ -1,6 +1,8 @@
 // A core over a total and its two leaves, driven by hand.
 
-use crate::{Accept, Begin, CompileEnd, Compiled, Core, Done, Entry, Job, Publish, PutBack, Take, compile};
+use crate::{
+    Accept, Begin, CompileEnd, Compiled, Core, Done, Entry, Job, Publish, PutBack, Take, compile,
+};
 use input_rules::judge_input;
 use price_base::Cell;
 use qna_base::Steps;
@@ -147,8 +149,16 @@ fn finishing_takes_back_what_is_out(rt: HostRuntime) -> Result<(), Fail> {
     let release = core.read_all()?;
     assert_eq!(&rt; (release.front, release.nodes.len()), (11, 3));
     let published = [
-        Entry::Publish { party: 0, front: 10, jobs: 3 },
-        Entry::Publish { party: 0, front: 11, jobs: 2 },
+        Entry::Publish {
+            party: 0,
+            front: 10,
+            jobs: 3,
+        },
+        Entry::Publish {
+            party: 0,
+            front: 11,
+            jobs: 2,
+        },
     ];
     assert_eq!(&rt; &core.history()[11..], published.as_slice());
     let made = made_of(alloc, food, &mut steps)?;
@@ -173,7 +183,13 @@ fn a_journal_is_bounded(rt: HostRuntime) -> Result<(), Fail> {
             core.begin()?;
             let answer = send(&mut core, b"FOOD", Kind::Indicator, 0, 9)?;
             let accepted = published + 1024;
-            assert_eq!(&rt; answer, Accept::Behind { accepted, published });
+            assert_eq!(&rt;
+                answer,
+                Accept::Behind {
+                    accepted,
+                    published
+                }
+            );
         }
         core.finish(&mut steps)?;
     }

@@ -20,8 +20,9 @@ pub invariant_of-self-2 : goal.invariant_of-self-2
 invariant_of-self-2 c =
     let pushed : c.push_reserved.new.self.items ≡ c.self.inside.history.items ++ Accept c.args.party c.args.input ∷ [] =
     c.push_reserved.ensures.items ∙ ap (λ (es : List Entry). es ++ Accept c.args.party c.args.input ∷ []) c.in_ok-reserve.ensures.items in
-    let fits : FitsPlan c.self.inside.plan c.args.input = subst (λ (s : CoreState). FitsPlan s.plan c.args.input) (sym c.self.view_is) c.requires in
-    (accept_kept c.self.inside.plan c.self.inside.history.items c.push_reserved.new.self.items c.self.inside.accepted c.self.inside.tables c.set.new.self c.self.inside.board c.self.inside.round
-     c.args.party c.args.input c.self.invariant.0 fits c.if-self-eq-MOST_INPUTS.false
-     (λ same. c.if-self-published.false (same ∙ ap (λ (n : ℕ). n + most_ahead) (sym c.front-published.ensures))) pushed c.set.ensures.items c.set.ensures.cells,
-     λ r is. omega (arith, c.push_reserved.ensures.len, c.push_reserved.ensures.capacity, c.in_ok-reserve.ensures.ok, c.in_ok-reserve.ensures.len))
+    let fits : FitsPlan c.self.inside.plan c.args.input = subst (λ (s : CoreState). FitsPlan s.plan c.args.input) (sym c.self.view_is) c.requires in (
+      accept_kept c.self.inside.plan c.self.inside.history.items c.push_reserved.new.self.items c.self.inside.accepted c.self.inside.tables c.set.new.self c.self.inside.board c.self.inside.round
+          c.args.party c.args.input c.self.invariant.0 fits c.if-self-eq-MOST_INPUTS.false
+          (λ same. c.if-self-published.false (same ∙ ap (λ (n : ℕ). n + most_ahead) (sym c.front-published.ensures))) pushed c.set.ensures.items c.set.ensures.cells,
+      λ r is. omega (arith, c.push_reserved.ensures.len, c.push_reserved.ensures.capacity, c.in_ok-reserve.ensures.ok, c.in_ok-reserve.ensures.len),
+    )

@@ -22,34 +22,35 @@ named_since-requires-clause-front c =
 pub open-requires-clause-leaves : goal.open-requires-clause-leaves
 open-requires-clause-leaves c =
     let named : AreNamed c.deref-2.result.now (inputs_between (inputs_of c.self.inside.history.items) c.self.inside.board.front c.self.inside.accepted) =
-        named_from c.in_ok-touched.touched.items c.deref-2.result.now c.deref.result.now c.self.inside.history.items c.front-front.result c.self.inside.board.front c.self.inside.accepted
-        c.in_ok-touched.ensures.named c.deref-2.ensures.value c.deref.ensures.value c.front-front.ensures in
+    named_from c.in_ok-touched.touched.items c.deref-2.result.now c.deref.result.now c.self.inside.history.items c.front-front.result c.self.inside.board.front c.self.inside.accepted
+    c.in_ok-touched.ensures.named c.deref-2.ensures.value c.deref.ensures.value c.front-front.ensures in
     flags_name_leaves c.self.inside.plan c.self.inside.history.items c.self.inside.accepted c.self.inside.tables c.self.inside.board c.self.inside.round c.deref-2.result.now c.self.invariant.0 named
 
 pub open-requires-clause-inputs : goal.open-requires-clause-inputs
 open-requires-clause-inputs c =
     let named : AreNamed c.deref-2.result.now (inputs_between (inputs_of c.self.inside.history.items) c.self.inside.board.front c.self.inside.accepted) =
-        named_from c.in_ok-touched.touched.items c.deref-2.result.now c.deref.result.now c.self.inside.history.items c.front-front.result c.self.inside.board.front c.self.inside.accepted
-        c.in_ok-touched.ensures.named c.deref-2.ensures.value c.deref.ensures.value c.front-front.ensures in
+    named_from c.in_ok-touched.touched.items c.deref-2.result.now c.deref.result.now c.self.inside.history.items c.front-front.result c.self.inside.board.front c.self.inside.accepted
+    c.in_ok-touched.ensures.named c.deref-2.ensures.value c.deref.ensures.value c.front-front.ensures in
     can_open c.self.inside.plan c.self.inside.history.items c.self.inside.accepted c.self.inside.tables c.self.inside.board c.self.inside.round c.deref-2.result.now c.self.invariant.0 named
 
 pub invariant_of-self-2 : goal.invariant_of-self-2
 invariant_of-self-2 c =
     let named : AreNamed c.deref-2.result.now (inputs_between (inputs_of c.self.inside.history.items) c.self.inside.board.front c.self.inside.accepted) =
-        named_from c.in_ok-touched.touched.items c.deref-2.result.now c.deref.result.now c.self.inside.history.items c.front-front.result c.self.inside.board.front c.self.inside.accepted
-        c.in_ok-touched.ensures.named c.deref-2.ensures.value c.deref.ensures.value c.front-front.ensures in
-    let more : c.self.inside.accepted ≢ c.self.inside.board.front = λ same. c.if-self-front.false (same ∙ sym c.front-front.ensures) in
-    (subst (λ (h : List Entry). IsKept c.self.inside.plan h c.self.inside.accepted c.self.inside.tables c.self.inside.board (Some c.in_ok-round.round)) (sym c.in_ok-reserve.ensures.items)
-     (begin_kept c.self.inside.plan c.self.inside.history.items c.self.inside.accepted c.self.inside.tables c.self.inside.board c.self.inside.round c.deref-2.result.now c.in_ok-round.round c.self.invariant.0 c.in_default.is more named c.in_ok-round.ensures.jobs
-      (c.in_ok-round.ensures.works (inputs_of c.self.inside.history.items) (opening c.self.inside.plan c.self.inside.history.items c.self.inside.accepted c.self.inside.tables c.self.inside.board c.self.inside.round c.deref-2.result.now c.self.invariant.0 named))),
-     λ r there. omega (arith, c.in_ok-reserve.ensures.ok, c.in_ok-reserve.ensures.len))
+    named_from c.in_ok-touched.touched.items c.deref-2.result.now c.deref.result.now c.self.inside.history.items c.front-front.result c.self.inside.board.front c.self.inside.accepted
+    c.in_ok-touched.ensures.named c.deref-2.ensures.value c.deref.ensures.value c.front-front.ensures in
+    let more : c.self.inside.accepted ≢ c.self.inside.board.front = λ same. c.if-self-front.false (same ∙ sym c.front-front.ensures) in (
+      subst (λ (h : List Entry). IsKept c.self.inside.plan h c.self.inside.accepted c.self.inside.tables c.self.inside.board (Some c.in_ok-round.round)) (sym c.in_ok-reserve.ensures.items)
+          (begin_kept c.self.inside.plan c.self.inside.history.items c.self.inside.accepted c.self.inside.tables c.self.inside.board c.self.inside.round c.deref-2.result.now c.in_ok-round.round c.self.invariant.0 c.in_default.is more named c.in_ok-round.ensures.jobs
+          (c.in_ok-round.ensures.works (inputs_of c.self.inside.history.items) (opening c.self.inside.plan c.self.inside.history.items c.self.inside.accepted c.self.inside.tables c.self.inside.board c.self.inside.round c.deref-2.result.now c.self.invariant.0 named))),
+      λ r there. omega (arith, c.in_ok-reserve.ensures.ok, c.in_ok-reserve.ensures.len),
+    )
 
 pub returns-clause-step : goal.returns-clause-step
 returns-clause-step c =
     let named : AreNamed c.deref-2.result.now (inputs_between (inputs_of c.self.inside.history.items) c.self.inside.board.front c.self.inside.accepted) =
-        named_from c.in_ok-touched.touched.items c.deref-2.result.now c.deref.result.now c.self.inside.history.items c.front-front.result c.self.inside.board.front c.self.inside.accepted
-        c.in_ok-touched.ensures.named c.deref-2.ensures.value c.deref.ensures.value c.front-front.ensures in
+    named_from c.in_ok-touched.touched.items c.deref-2.result.now c.deref.result.now c.self.inside.history.items c.front-front.result c.self.inside.board.front c.self.inside.accepted
+    c.in_ok-touched.ensures.named c.deref-2.ensures.value c.deref.ensures.value c.front-front.ensures in
     let more : c.self.inside.accepted ≢ c.self.inside.board.front = λ same. c.if-self-front.false (same ∙ sym c.front-front.ensures) in
     subst (λ (s : CoreState). Begins s (Opened c.self.inside.accepted c.jobs-jobs.result) (state_of_parts c.self.inside.plan c.reserve.new.self.items (Some c.in_ok-round.round))) c.self.view_is
     (begin_step c.self.inside.plan c.self.inside.history.items c.reserve.new.self.items c.self.inside.accepted c.self.inside.tables c.self.inside.board c.self.inside.round
-     c.deref-2.result.now c.in_ok-round.round c.jobs-jobs.result c.self.invariant.0 c.in_default.is more named c.in_ok-round.ensures.jobs c.jobs-jobs.ensures c.in_ok-reserve.ensures.items)
+    c.deref-2.result.now c.in_ok-round.round c.jobs-jobs.result c.self.invariant.0 c.in_default.is more named c.in_ok-round.ensures.jobs c.jobs-jobs.ensures c.in_ok-reserve.ensures.items)

@@ -21,18 +21,21 @@ invariant_of-self-then-is_made_out c =
     let is : c.self.inside.round ≡ Some c.in-Some.round = sym c.take.ensures.value ∙ c.in-Some.is in
     let under = inputs_under c.self.inside.history.items c.in-Some.round in
     let over : IsRoundOver c.self.inside.plan under c.in-Some.round = (c.self.invariant.0.open_round c.in-Some.round is).over in
-    let out : IsOut c.self.inside.plan under (round_in c.in-Some.round) (job_made c.args.made) = (c.is_made_out.ensures under over).0 c.if-is_made_out.true in
-    (done_kept c.self.inside.plan c.self.inside.history.items c.self.inside.accepted c.self.inside.tables c.self.inside.board c.stage.new.self c.self.inside.round
-     c.in-Some.round c.finish-table.new.self c.args.made c.finish-table.result c.self.invariant.0 is out
-     c.finish-table.ensures.job (c.finish-table.ensures.works under over out) (c.finish-table.ensures.worth under out) c.stage.ensures,
-     λ r there. c.self.invariant.1 c.in-Some.round is)
+    let out : IsOut c.self.inside.plan under (round_in c.in-Some.round) (job_made c.args.made) = (c.is_made_out.ensures under over).0 c.if-is_made_out.true in (
+      done_kept c.self.inside.plan c.self.inside.history.items c.self.inside.accepted c.self.inside.tables c.self.inside.board c.stage.new.self c.self.inside.round
+          c.in-Some.round c.finish-table.new.self c.args.made c.finish-table.result c.self.invariant.0 is out
+          c.finish-table.ensures.job (c.finish-table.ensures.works under over out) (c.finish-table.ensures.worth under out) c.stage.ensures,
+      λ r there. c.self.invariant.1 c.in-Some.round is,
+    )
 
 pub returns-else-is_made_out : goal.returns-else-is_made_out
 returns-else-is_made_out c =
     let is : c.self.inside.round ≡ Some c.in-Some.round = sym c.take.ensures.value ∙ c.in-Some.is in
     let under = inputs_under c.self.inside.history.items c.in-Some.round in
     let over : IsRoundOver c.self.inside.plan under c.in-Some.round = (c.self.invariant.0.open_round c.in-Some.round is).over in
-    let never : IsOut c.self.inside.plan under (round_in c.in-Some.round) (job_made c.args.made) → ⊥ = λ out. (let both : true ≡ false = sym ((c.is_made_out.ensures under over).1 out) ∙ c.if-is_made_out.false in cc) in
-    (subst (λ (s : CoreState). IsOutNow s (job_made c.args.made) → ⊥) c.self.view_is
-     (not_out c.self.inside.plan c.self.inside.history.items c.self.inside.round c.in-Some.round (job_made c.args.made) is never),
-     refl, ap (state_of_parts c.self.inside.plan c.self.inside.history.items) (sym is) ∙ c.self.view_is)
+    let never : IsOut c.self.inside.plan under (round_in c.in-Some.round) (job_made c.args.made) → ⊥ = λ out. (let both : true ≡ false = sym ((c.is_made_out.ensures under over).1 out) ∙ c.if-is_made_out.false in cc) in (
+      subst (λ (s : CoreState). IsOutNow s (job_made c.args.made) → ⊥) c.self.view_is
+          (not_out c.self.inside.plan c.self.inside.history.items c.self.inside.round c.in-Some.round (job_made c.args.made) is never),
+      refl,
+      ap (state_of_parts c.self.inside.plan c.self.inside.history.items) (sym is) ∙ c.self.view_is,
+    )

@@ -22,10 +22,11 @@ pub returns : goal.returns
 returns c =
     let kept = c.self.invariant.0 in
     let all : length (map shared_table c.self.inside.board.shown) ≡ c.loop-node.node =
-        length-map c.self.inside.board.shown shared_table ∙ kept.published.shown
-        ∙ (let e : length c.self.inside.plan.names ≡ c.loop-node.node = omega (arith, c.loop-node-test.false, c.loop-node.auto.node-end, c.len-node-end.ensures.items) in e) in
+    length-map c.self.inside.board.shown shared_table ∙ kept.published.shown
+    ∙ (let e : length c.self.inside.plan.names ≡ c.loop-node.node = omega (arith, c.loop-node-test.false, c.loop-node.auto.node-end, c.len-node-end.ensures.items) in e) in
     let whole : map shared_table c.loop-node.nodes.items ≡ compilation c.self.inside.plan (take c.self.inside.board.front (inputs_of c.self.inside.history.items)) =
-        c.loop-node.invariant ∙ take_whole (map shared_table c.self.inside.board.shown) c.loop-node.node all ∙ kept.published.tables in
-    subst (λ (s : CoreState). ReadsAll s c.front.result (map shared_table c.loop-node.nodes.items)) c.self.view_is
-    (c.front.ensures ∙ kept.front,
-     whole ∙ ap (λ (n : ℕ). compilation c.self.inside.plan (take n (inputs_of c.self.inside.history.items))) kept.front)
+    c.loop-node.invariant ∙ take_whole (map shared_table c.self.inside.board.shown) c.loop-node.node all ∙ kept.published.tables in
+    subst (λ (s : CoreState). ReadsAll s c.front.result (map shared_table c.loop-node.nodes.items)) c.self.view_is (
+      c.front.ensures ∙ kept.front,
+      whole ∙ ap (λ (n : ℕ). compilation c.self.inside.plan (take n (inputs_of c.self.inside.history.items))) kept.front,
+    )
