@@ -11,3 +11,6 @@ pub use laws::{
     lawful_histories_grow,
 };
 pub use naming::named_since;
+
+#[cfg(test)]
+mod tests;
