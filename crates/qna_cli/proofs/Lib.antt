@@ -1,4 +1,3 @@
 pub mod Batches
 pub mod Branches
-pub mod Certified
 pub mod CheckEnds

@@ -4,8 +4,8 @@ ghost use Rattle.qna_cli.specs.Batch.{BatchesRelease, BatchesComplete};
 
 use qna_parts::commands_complete;
 
-/// Law: where `batch` ends with `Done`, the output holds the release of all accepted inputs, compiled from scratch, and
-/// the report has the line of each refused one.
+/// Law: where `batch` ends with `Done`, the output holds the release of all accepted inputs, compiled from scratch, the
+/// report has the line of each refused one, and the release is worth what every release is.
 pub fn batches_release()
     ensures { BatchesRelease }
 {}

@@ -6,7 +6,7 @@ ghost use Rattle.qna_cli.specs.Command.{words_in, is_batch, OnBatch, is_check, O
 ghost use Rattle.qna_cli.specs.Command.{is_file_name as is_file_name_of, are_file_names as are_file_names_of};
 ghost use Rattle.qna_cli.specs.Batch.{IsBatchEnd};
 ghost use Rattle.qna_cli.specs.CheckEnd.{IsCheckEnd};
-ghost use Rattle.qna_cli.specs.Release.{ReleasesAreCertified};
+ghost use Rattle.qna_laws.specs.Releases.{ReleasesAreCertified};
 
 use crate::check::run_check;
 use crate::release::Releases;
@@ -53,7 +53,7 @@ fn names_check(words: &[&str]) -> bool
 
 /// Does all that the program does, by its words: `batch PLAN INPUT OUTPUT` or `check CERT`; words of any other form are
 /// `Usage`. The runtime and the gate serve commands whose desks wait for one another; no such command stands yet.
-#[tactic(auto, using(crate::proofs::Certified::releases_are_certified, crate::proofs::Branches::branches))]
+#[tactic(auto, using(qna_laws::proofs::Releases::releases_certified, crate::proofs::Branches::branches))]
 pub fn run<R: Threads + Wait, C: Cabinet, K: Sink, G: Gate>(
     _rt: &R,
     alloc: Global,
@@ -85,7 +85,7 @@ pub fn run<R: Threads + Wait, C: Cabinet, K: Sink, G: Gate>(
 
 /// Carries out the command `batch PLAN INPUT OUTPUT`: reads the plan, at most 2^20 bytes, takes the input, at most 2^30
 /// bytes, line by line, reports each refused line of it, and writes the release of all accepted inputs to the output.
-#[tactic(auto, using(crate::proofs::Certified::releases_are_certified))]
+#[tactic(auto, using(qna_laws::proofs::Releases::releases_certified))]
 pub fn run_batch<C: Cabinet, K: Sink>(
     alloc: Global,
     words: &[&str],
@@ -115,11 +115,3 @@ pub fn run_batch<C: Cabinet, K: Sink>(
         _ => tell_usage(report),
     }
 }
-
-/// Law: whatever the plan and the accepted inputs, in every release each leaf's quarters are numbers that add up to the
-/// benchmarks sent last for its benchmarked years, no series that meets these benchmarks has a sum of squared ratio
-/// changes smaller by more than the printed gap, and each item's chained volumes are the products of its annual links
-/// up to the printed drift, with quarters that add up to the level of a complete year.
-pub fn releases_are_certified()
-    ensures { ReleasesAreCertified }
-{}

@@ -12,11 +12,12 @@ mod release;
 
 pub use batch::{batches_complete, batches_release};
 pub use check::{checks_complete, run_check};
-pub use command::{releases_are_certified, run, run_batch};
+pub use command::{run, run_batch};
 use qna_base::Memory;
 use qna_edges::{FileCabinet, OpenGate, Status, StdoutSink};
 use qna_parts::{Unread, tell_unread, tell_usage};
 use std::alloc::Global;
+use std::io::Stdout;
 use std::process::ExitCode;
 use std::rt::Files;
 use std::{env, fs, io};
@@ -52,7 +53,7 @@ fn words_of(alloc: Global, texts: &[String]) -> Result<Vec<&str>, Memory> {
 
 /// The texts of the command line, the program's name first. The answer is a status where they can't be had: for want of
 /// memory, or at a word that isn't UTF-8, which is of no command's form and is reported so.
-fn texts_of(rt: &HostRuntime, report: &mut StdoutSink) -> Result<Vec<String>, Status> {
+fn texts_of(rt: &HostRuntime, report: &mut StdoutSink<Stdout>) -> Result<Vec<String>, Status> {
     match env::args(rt) {
         Ok(arguments) => arguments.collect(rt.alloc()).map_err(|_| Status::Memory),
         Err(error) => match error.kind() {

@@ -134,9 +134,17 @@ body_short plan sent fine =
     let d : List ℕ = signed_decimal (pos sent.party) in
     let v : List ℕ = signed_decimal sent.input.value in
     omega (
-      arith, fine.short, value, desk, word_short sent.input.kind, period_short sent.input.kind plan.start sent.input.period,
-      length-append (kind_word sent.input.kind) (fields_body (fields_of plan sent)), length-append name (44 ∷ (period ++ 44 ∷ (v ++ 44 ∷ (d ++ [])))),
-      length-append period (44 ∷ (v ++ 44 ∷ (d ++ []))), length-append v (44 ∷ (d ++ [])), length-append {A = ℕ} d [],
+      arith,
+      fine.short,
+      value,
+      desk,
+      word_short sent.input.kind,
+      period_short sent.input.kind plan.start sent.input.period,
+      length-append (kind_word sent.input.kind) (fields_body (fields_of plan sent)),
+      length-append name (44 ∷ (period ++ 44 ∷ (v ++ 44 ∷ (d ++ [])))),
+      length-append period (44 ∷ (v ++ 44 ∷ (d ++ []))),
+      length-append v (44 ∷ (d ++ [])),
+      length-append {A = ℕ} d [],
     )
 
 body_line : (n : ℕ) (plan : PlanShape) (sent : Sent) → IsFineSent plan sent → line_at n (body_of plan sent) ≡ record { number = n; long = false; text = body_of plan sent }
@@ -192,7 +200,9 @@ fields_ask : AreYearsRead → AreQuartersRead → (plan : PlanShape) (sent : Sen
 fields_ask years quarters plan sent fine =
     let small = value_small sent.input.kind sent.input.value fine.least fine.most in
     rw (
-      desk_read sent.party fine.first fine.last, word_kind sent.input.kind, period_read years quarters sent.input.kind plan.start sent.input.period fine.start fine.period,
+      desk_read sent.party fine.first fine.last,
+      word_kind sent.input.kind,
+      period_read years quarters sent.input.kind plan.start sent.input.period fine.start fine.period,
       value_read sent.input.value small,
     ) refl
 

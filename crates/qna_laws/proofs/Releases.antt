@@ -20,7 +20,7 @@ use Rattle.node_compile.proofs.Tree.{all_chained}
 use Rattle.node_compile.proofs.Sent.{IsLeafInRange, tables_true}
 use Rattle.node_compile.proofs.Worth.{leaf_worth}
 use Rattle.node_compile.proofs.Items.{cells_count}
-use Rattle.qna_laws.specs.Releases.{ReleasesAreCertified}
+use Rattle.qna_laws.specs.Releases.{IsCertified, ReleasesAreCertified}
 
 -- what a leaf's table is worth
 leaf_of_text : (plan : PlanShape) (text : List ℕ) (item : ℕ) → MeetsItsBenchmarks (table_of_leaf (last_value (accepted plan text)) plan.reference item) × IsWithinItsGap (table_of_leaf (last_value (accepted plan text)) plan.reference item)
@@ -64,7 +64,7 @@ leaf_range plan text leaf =
 
 -- every release is certified
 pub releases_certified : ReleasesAreCertified
-unfolding ReleasesAreCertified compilation
+unfolding ReleasesAreCertified IsCertified compilation
 releases_certified plan text = (
   tables_true (last_value (accepted plan text)) plan (leaf_range plan text),
   All-map MeetsItsBenchmarks (item_table (last_value (accepted plan text)) plan) (range_with_len 0 (length plan.names)) (λ k d inside. (item_worth plan text (get_or (range_with_len 0 (length plan.names)) k d)).0),

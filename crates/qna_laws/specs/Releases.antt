@@ -7,13 +7,17 @@ use Rattle.node_compile.specs.Laws.{MeetsItsBenchmarks, IsWithinItsGap, IsTrulyC
 use Rattle.node_compile.specs.Release.{compilation}
 use Rattle.node_compile.specs.Sent.{AreTrueTo}
 
--- whatever the plan and the text: each leaf's table is about what was sent last, and its values add up to the benchmark in
--- every benchmarked year; they meet the benchmarks of its certificate, and no series that meets these has a sum of squared
--- ratio changes smaller by more than the gap; and each item's chain is that of its own values and volumes
-unfoldable pub ReleasesAreCertified : Type 0
-ReleasesAreCertified =
-    (plan : PlanShape) (text : List ℕ)
-    → AreTrueTo plan (last_value (accepted plan text)) (compilation plan (accepted plan text))
+-- of the compilation of the accepted inputs of a text: each leaf's table is about what was sent last, and its values add
+-- up to the benchmark in every benchmarked year; they meet the benchmarks of its certificate, and no series that meets
+-- these has a sum of squared ratio changes smaller by more than the gap; and each item's chain is that of its own values
+-- and volumes
+unfoldable pub IsCertified : PlanShape → List ℕ → Type 0
+IsCertified plan text =
+    AreTrueTo plan (last_value (accepted plan text)) (compilation plan (accepted plan text))
     × All MeetsItsBenchmarks (compilation plan (accepted plan text))
     × All IsWithinItsGap (compilation plan (accepted plan text))
     × All (IsTrulyChained plan.reference) (compilation plan (accepted plan text))
+
+-- so it is whatever the plan and the text
+unfoldable pub ReleasesAreCertified : Type 0
+ReleasesAreCertified = (plan : PlanShape) (text : List ℕ) → IsCertified plan text
