@@ -17,8 +17,8 @@ abbrev pub IsBatchEnd : Shelves → Shelves → Paper → Paper → List ℕ →
 IsBatchEnd = IsCommandEnd release_of
 
 -- where `batch` ends with `Done` and the cabinet tells its bytes, the plan's text spells a plan, the output holds the
--- release of all accepted inputs, compiled from scratch, the report has the line of each refused one, and the release is
--- worth what every release is
+-- release of all accepted inputs, compiled from scratch, the report has the line of each refused one, and the release
+-- is worth what every release is
 abbrev pub BatchesRelease : Type 0
 BatchesRelease =
     (old new : Shelves) (before after : Paper) (plan input output : List ℕ) (spelled text : List ℕ)

@@ -14,8 +14,8 @@ use std::fs;
 use std::io::{Read, Write};
 use std::rt::Files;
 
-// One write to a device, which takes the first bytes of the piece and no others. An error is a fault, and so is a device
-// that takes nothing.
+// One write to a device, which takes the first bytes of the piece and no others. An error is a fault, and so is a
+// device that takes nothing.
 #[tactic(auto, using(crate::proofs::Device::keeps_all))]
 fn write_counted<W: Write>(device: &mut W, bytes: &[u8], faults: &mut u64) -> Result<usize, Refused>
     requires { 0 < length bytes.now }

@@ -234,7 +234,8 @@ impl Cabinet for MemCabinet {
         ensures left { IfOk result (λ s. Some s.left ≡ bytes_of self.old name.now) }
         ensures known { OnOk result (Knows self.new name.now) }
         ensures stays_known { StaysKnown (Knows self.old) (Knows self.new) }
-        ensures ok { OnOk result (GivesSource (shelves_of self.old) (shelves_of self.new) name.now) }
+        ensures ok { OnOk result
+            (GivesSource (shelves_of self.old) (shelves_of self.new) name.now) }
         ensures failed { IsErrOf result Refused.Failed →
             OpenFails (shelves_of self.old) (shelves_of self.new) name.now }
         ensures memory { IsErrOf result Refused.Memory →

@@ -14,18 +14,26 @@ use Rattle.release_print.specs.Certificate.{certificate_or_none, certificate_tex
 use Rattle.release_print.specs.Line.{line_text, name_of}
 use Rattle.release_print.specs.Release.{gap_line}
 
--- the printed certificate is read as what it says, and a document that says the same meets its benchmarks and states the gap of its own numbers
+-- the printed certificate is read as what it says, and a document that says the same meets its benchmarks and states
+-- the gap of its own numbers
 abbrev pub IsReadAndTrue : ℕ → List ℕ → ℕ → Certificate → List Cell → Type 0
 IsReadAndTrue start name front certificate values =
-    (reading (certificate_or_none start name front (Some certificate) values) ≡ Ok (content_of start name front certificate values))
-    × ((doc : CertDoc) → content_of_document doc ≡ content_of start name front certificate values → MeetsAll doc × (doc.gap ≡ gap_of_document doc))
+    (reading (certificate_or_none start name front (Some certificate) values)
+    ≡ Ok (content_of start name front certificate values))
+    × ((doc : CertDoc) → content_of_document doc ≡ content_of start name front certificate values
+    → MeetsAll doc × (doc.gap ≡ gap_of_document doc))
 
--- the line of a release that shows what a certificate says: the name, how many years are benchmarked, the scale and the gap
+-- the line of a release that shows what a certificate says: the name, how many years are benchmarked, the scale and the
+-- gap
 abbrev pub shown_line : Content → List ℕ
-shown_line said = line_text (codes "g") (said.name ∷ decimal (length said.bench) ∷ decimal (unsigned_abs said.scale) ∷ signed_decimal said.gap ∷ [])
+shown_line said = line_text (codes "g")
+    (said.name ∷ decimal (length said.bench) ∷ decimal (unsigned_abs said.scale) ∷ signed_decimal said.gap ∷ [])
 
--- a check of the certificate that is printed of an item's table finds yes, and what the certificate says is what the item's line in the release shows, with the gap of the table
+-- a check of the certificate that is printed of an item's table finds yes, and what the certificate says is what the
+-- item's line in the release shows, with the gap of the table
 pub record IsFoundTrue (plan : PlanShape) (front item : ℕ) (table : Table) : Type 0 where
   pub yes : found (certificate_text plan front item table) ≡ Ok Yes
-  pub shown : IfOk (reading (certificate_text plan front item table)) (λ said. gap_line (name_of plan.names item) table.leaf ≡ shown_line said)
-  pub gap : IfOk (reading (certificate_text plan front item table)) (λ said. IfSome table.leaf (λ certificate. said.gap ≡ certificate.gap))
+  pub shown : IfOk (reading (certificate_text plan front item table))
+      (λ said. gap_line (name_of plan.names item) table.leaf ≡ shown_line said)
+  pub gap : IfOk (reading (certificate_text plan front item table))
+      (λ said. IfSome table.leaf (λ certificate. said.gap ≡ certificate.gap))

@@ -7,10 +7,10 @@ use Rattle.node_compile.specs.Laws.{MeetsItsBenchmarks, IsWithinItsGap, IsTrulyC
 use Rattle.node_compile.specs.Release.{compilation}
 use Rattle.node_compile.specs.Sent.{AreTrueTo}
 
--- of the compilation of the accepted inputs of a text: each leaf's table is about what was sent last, and its values add
--- up to the benchmark in every benchmarked year; they meet the benchmarks of its certificate, and no series that meets
--- these has a sum of squared ratio changes smaller by more than the gap; and each item's chain is that of its own values
--- and volumes
+-- of the compilation of the accepted inputs of a text: each leaf's table is about what was sent last, and its values
+-- add up to the benchmark in every benchmarked year; they meet the benchmarks of its certificate, and no series that
+-- meets these has a sum of squared ratio changes smaller by more than the gap; and each item's chain is that of its own
+-- values and volumes
 unfoldable pub IsCertified : PlanShape → List ℕ → Type 0
 IsCertified plan text =
     AreTrueTo plan (last_value (accepted plan text)) (compilation plan (accepted plan text))

@@ -1,6 +1,7 @@
 //! What a printed certificate is worth to its reader, as laws.
 
-ghost use Rattle.std.specs.Prelude.{◌≡◌, ◌^◌, ◌/◌, ◌≤◌, ℕ, ℤ, pos, IsTrue, List, length, All, Option, IfSome, IsSome, Some, Ok, slice_get};
+ghost use Rattle.std.specs.Prelude.{◌≡◌, ◌^◌, ◌/◌, ◌≤◌, ℕ, ℤ, pos, IsTrue, List, length, All, Option, IfSome};
+ghost use Rattle.std.specs.Prelude.{IsSome, Some, Ok, slice_get};
 ghost use Rattle.line_form.specs.Name.{is_name};
 ghost use Rattle.price_base.specs.declared.Cell.{Cell};
 ghost use Rattle.denton_parts.specs.Benchmarks.{MeetsBenchmarks};
@@ -23,8 +24,8 @@ ghost use Rattle.qna_laws.specs.Certificates.{IsReadAndTrue, IsFoundTrue};
 use period_keys::written_is_read;
 use series_tables::spelled_plans_are_plans;
 
-/// The printed certificate of a leaf with benchmarked years, its numbers in range, is read as what it says: the name, the front, the scale, the start year, the
-/// indicators, the benchmarks, the values, the multipliers and the gap.
+/// The printed certificate of a leaf with benchmarked years, its numbers in range, is read as what it says: the name,
+/// the front, the scale, the start year, the indicators, the benchmarks, the values, the multipliers and the gap.
 pub fn printed_certificate_is_read()
     ensures { (start front : ℕ) (name : List ℕ) (certificate : Certificate) (values : List Cell) →
         IsDocument name front certificate.scale start certificate.indicators certificate.benchmarks
@@ -35,7 +36,8 @@ pub fn printed_certificate_is_read()
     written_is_read();
 }
 
-/// Where the values of a certificate meet its benchmarks and its gap is that of its numbers, a document that says the same is one of which a check says yes.
+/// Where the values of a certificate meet its benchmarks and its gap is that of its numbers, a document that says the
+/// same is one of which a check says yes.
 pub fn printed_certificate_is_true()
     ensures { (doc : CertDoc) (start front : ℕ) (name : List ℕ)
         (certificate : Certificate) (values : List Cell) →
@@ -47,9 +49,10 @@ pub fn printed_certificate_is_true()
         → MeetsAll doc × (doc.gap ≡ gap_of_document doc) }
 {}
 
-/// The printed certificate of a compiled leaf is read and true: for any indicators and benchmarks in range, at most 256 quarters of them, any prices and
-/// reference year, a name, a start year from 1900 to 2200 and a front up to 262144, the certificate of the leaf's table, where a year is benchmarked, is read as
-/// what it says, and a document that says the same is one of which a check says yes.
+/// The printed certificate of a compiled leaf is read and true: for any indicators and benchmarks in range, at most 256
+/// quarters of them, any prices and reference year, a name, a start year from 1900 to 2200 and a front up to 262144,
+/// the certificate of the leaf's table, where a year is benchmarked, is read as what it says, and a document that says
+/// the same is one of which a check says yes.
 pub fn compiled_certificate_is_true()
     ensures { (indicators : List ℕ) (prices : List (Option ℕ)) (benchmarks : List (Option ℤ))
         (reference : ℕ) (name : List ℕ) (start front : ℕ) →
@@ -64,8 +67,9 @@ pub fn compiled_certificate_is_true()
     printed_certificate_is_true();
 }
 
-/// For every plan that a text spells and every text of inputs: where an item has a certificate in the compilation of the accepted inputs, a check of the
-/// certificate that is printed for it finds yes, and the certificate says the years, the scale and the gap that the release shows.
+/// For every plan that a text spells and every text of inputs: where an item has a certificate in the compilation of
+/// the accepted inputs, a check of the certificate that is printed for it finds yes, and the certificate says the
+/// years, the scale and the gap that the release shows.
 pub fn accepted_certificates_are_found_true()
     ensures { (spelled text : List ℕ) (plan : PlanShape) (item : ℕ) (table : Table) →
         plan_of spelled ≡ Ok plan

@@ -1,6 +1,6 @@
-//! Laws over the definitions. Each is the contract of a public function that does nothing, so whoever calls it knows the
-//! law. A body that does nothing can't be turned wrong: what stands here is refused by its proof alone, and no edit of it
-//! shows anything.
+//! Laws over the definitions. Each is the contract of a public function that does nothing, so whoever calls it knows
+//! the law. A body that does nothing can't be turned wrong: what stands here is refused by its proof alone, and no edit
+//! of it shows anything.
 #![tactic(auto)]
 
 mod certificates;

@@ -11,7 +11,8 @@ use Rattle.qna_parts.specs.Intake.{most_bytes, refusals_text, ended_refusals_tex
 use Rattle.qna_parts.specs.Making.{Making}
 use Rattle.qna_parts.specs.Report.{ReportsFirst, ReportsThen, WritesBoth}
 use Rattle.qna_parts.specs.StatusLine.{named_line}
-use Rattle.qna_parts.specs.Trace.{Trace, OnText, IsReadWhole, IsUnfailed, IsUnopened, Passes, IsNotCreated, IsCreatedOnce, IsEmptied}
+use Rattle.qna_parts.specs.Trace.{Trace, OnText, IsReadWhole, IsUnfailed, IsUnopened, Passes, IsNotCreated}
+use Rattle.qna_parts.specs.Trace.{IsCreatedOnce, IsEmptied}
 
 -- a file holds a beginning of a text, but not all of it
 unfoldable pub HoldsPart : Option (List ℕ) → List ℕ → Type 0
@@ -49,8 +50,8 @@ pub record InputUnread (plan : PlanShape) (input output : Trace) (before after :
   pub within : OnText input (λ text. length text ≤ most_bytes + input.new.rest)
   pub emptied : IsEmptied output
 
--- the input has more bytes than its limit, of which no more than a piece was read: the output is empty, and of the report were to be written each refused line
--- that a line feed ends within the limit, and then the input's name
+-- the input has more bytes than its limit, of which no more than a piece was read: the output is empty, and of the
+-- report were to be written each refused line that a line feed ends within the limit, and then the input's name
 pub record InputTooLong (plan : PlanShape) (input output : Trace) (before after : Paper) : Type 0 where
   pub passed : OnText input (λ text. Passes most_bytes 65536 (length text) input.new.rest)
   pub told : OnText input (λ text. WritesBoth before after

@@ -1,4 +1,5 @@
-// An office's input of nine years: twelve items with prices in three groups, sent by two desks, with raises that come late.
+// An office's input of nine years: twelve items with prices in three groups, sent by two desks, with raises that come
+// late.
 
 ghost use Rattle.std.specs.Prelude.{◌<◌, length};
 
@@ -43,7 +44,8 @@ fn price(item: u16, quarter: u64) -> u64
     10_050 + 50 * quarter + u64::from(item)
 }
 
-/// The benchmark of an item in a year, counted from 0: 26 times the sum of its four indicators, and 1,000 more each year.
+/// The benchmark of an item in a year, counted from 0: 26 times the sum of its four indicators, and 1,000 more each
+/// year.
 fn benchmark(item: u16, year: u64) -> u64
     requires { year < 9 }
 {

@@ -14,7 +14,8 @@ fn push_times(bytes: &mut Vec<u8>, byte: u8, count: usize) -> Result<(), Fail> {
     Ok(())
 }
 
-/// An input of 312 lines and more than 65,536 bytes, with a mark, carriage returns, lines of 256 and of 257 bytes, and no line feed at its end.
+/// An input of 312 lines and more than 65,536 bytes, with a mark, carriage returns, lines of 256 and of 257 bytes, and
+/// no line feed at its end.
 fn long_input(alloc: Global) -> Result<Vec<u8>, Fail> {
     let mut bytes = Vec::new(alloc);
     bytes.extend_from_slice(b"\xEF\xBB\xBF# note\r\nind,FOOD,2021Q1,1\r\nind,FOOD,2021Q2,")?;
