@@ -6,7 +6,7 @@ use Rattle.series_tables.specs.Plan.{plan_of}
 use Rattle.input_rules.specs.Accepted.{accepted}
 use Rattle.qna_parts.specs.Intake.{refusals_text}
 use Rattle.qna_laws.specs.Releases.{ReleasesAreCertified}
-use Rattle.qna_laws.proofs.Releases.{releases_certified}
+use Rattle.qna_laws.proofs.Certified.{releases_certified}
 use Rattle.qna_cli.specs.Release.{release_of}
 use Rattle.qna_cli.specs.Batch.{BatchesRelease}
 

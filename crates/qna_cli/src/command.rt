@@ -53,7 +53,7 @@ fn names_check(words: &[&str]) -> bool
 
 /// Does all that the program does, by its words: `batch PLAN INPUT OUTPUT` or `check CERT`; words of any other form are
 /// `Usage`. The runtime and the gate serve commands whose desks wait for one another; no such command stands yet.
-#[tactic(auto, using(qna_laws::proofs::Releases::releases_certified, crate::proofs::Branches::branches))]
+#[tactic(auto, using(qna_laws::proofs::Certified::releases_certified, crate::proofs::Branches::branches))]
 pub fn run<R: Threads + Wait, C: Cabinet, K: Sink, G: Gate>(
     _rt: &R,
     alloc: Global,
@@ -85,7 +85,7 @@ pub fn run<R: Threads + Wait, C: Cabinet, K: Sink, G: Gate>(
 
 /// Carries out the command `batch PLAN INPUT OUTPUT`: reads the plan, at most 2^20 bytes, takes the input, at most 2^30
 /// bytes, line by line, reports each refused line of it, and writes the release of all accepted inputs to the output.
-#[tactic(auto, using(qna_laws::proofs::Releases::releases_certified))]
+#[tactic(auto, using(qna_laws::proofs::Certified::releases_certified))]
 pub fn run_batch<C: Cabinet, K: Sink>(
     alloc: Global,
     words: &[&str],

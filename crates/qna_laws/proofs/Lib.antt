@@ -5,5 +5,5 @@ pub mod Printed
 pub mod GapSizes
 pub mod Compiled
 pub mod Found
-pub mod Journals
-pub mod Releases
+pub mod Written
+pub mod Certified

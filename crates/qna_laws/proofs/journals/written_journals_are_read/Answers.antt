@@ -1,4 +1,4 @@
-use Rattle.qna_laws.proofs.Journals.{journal_read}
+use Rattle.qna_laws.proofs.Written.{journal_read}
 use Rattle.qna_laws.proofs.journals.written_journals_are_read.Goals as goal
 
 pub returns : goal.returns
