@@ -40,6 +40,7 @@ sizes : (indicators : List ℕ) → map unsigned_abs (map (λ n. pos n) indicato
 sizes [] = refl
 sizes (i ∷ indicators) = ap (λ (rest : List ℕ). i ∷ rest) (sizes indicators)
 
+-- the same of prices or none
 price_sizes : (prices : List (Option ℕ)) → map (option_map unsigned_abs) (map (option_map (λ n. pos n)) prices) ≡ prices
 price_sizes [] = refl
 price_sizes (None ∷ prices) = ap (λ (rest : List (Option ℕ)). None ∷ rest) (price_sizes prices)
@@ -88,6 +89,7 @@ pub count_opened : (plan : PlanShape) (is_named : ℕ → Bool) → length (open
 unfolding opened_jobs
 count_opened plan is_named = length-map-range_with_len (λ i. first_state (is_touched plan is_named i)) 0 (length plan.parents)
 
+-- past the items there is none
 state_past : (plan : PlanShape) (is_named : ℕ → Bool) (item : ℕ) → length plan.parents ≤ item → state_of (opened_jobs plan is_named) item ≡ Clean
 state_past plan is_named item past = get_or_past (opened_jobs plan is_named) item Clean (omega (arith, past, count_opened plan is_named))
 

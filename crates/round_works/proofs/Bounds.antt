@@ -136,6 +136,7 @@ values_in_range plan inputs jobs item first tallies before few fits sum t =
     let size = settled_sums (10 ^ 24) plan jobs (values_after plan inputs) item first tallies before few (λ i inside. (items_sized plan inputs i fits inside).value.sizes) sum t in
     omega (arith, size)
 
+-- and sums of volumes
 pub volumes_in_range : (plan : PlanShape) (inputs : List Input) (jobs : List JobState) (item first : ℕ) (tallies : List Tally) → item < first → length plan.parents ≤ 512 → All (FitsPlan plan) inputs →
     IsSumOf (settled_from plan jobs (volumes_after plan inputs) item first) tallies → AreVolumeSums tallies
 volumes_in_range plan inputs jobs item first tallies before few fits sum t =

@@ -53,6 +53,7 @@ job_waits Waiting waits = refl
 job_waits Out waits = refl
 job_waits Done waits = absurd (let never : Done ≡ Waiting = waits refl in cc)
 
+-- without a job the state is this one
 clean_state : (state : JobState) → is_job state ≡ false → state ≡ Clean
 clean_state Clean none = refl
 clean_state Waiting none = absurd (cc)
@@ -65,6 +66,7 @@ settled_other_child : (plan : PlanShape) (inputs : List Input) (jobs : List JobS
 settled_other_child plan inputs jobs shown item child shows =
     ap (λ (b : Bool). is_parent item (get_or plan.parents child None) && not b) (job_waits (state_of jobs child) (shows.waiting child))
 
+-- where both hold, the second test fails
 both_true : (a b : Bool) → (a && not b) ≡ true → b ≡ false
 both_true true false e = refl
 both_true true true e = absurd (cc)
@@ -143,11 +145,13 @@ pub record IsTurn (plan : PlanShape) (jobs : List JobState) (shown : List (Arc N
   pub there : slice_get shown child ≡ Some node
   pub lends : lent ≡ arc_value node
 
+-- the lent table is the child's after the inputs
 lent_table : (plan : PlanShape) (inputs : List Input) (jobs : List JobState) (shown : List (Arc NodeTable Global)) (item child next : ℕ) (lent : NodeTable) → ShowsOthers plan inputs jobs shown →
     IsTurn plan jobs shown item child next lent → table_in lent ≡ table_after plan inputs child
 lent_table plan inputs jobs shown item child next lent shows turn =
     ap table_in turn.lends ∙ shown_table plan inputs jobs shown item child turn.node shows turn.named turn.other turn.there
 
+-- so the sum with its flows is the sum from the child on
 sum_with_turn : (plan : PlanShape) (inputs : List Input) (jobs : List JobState) (shown : List (Arc NodeTable Global)) (item child next : ℕ) (lent : NodeTable) (sum : Sum) → ShowsOthers plan inputs jobs shown →
     IsTurn plan jobs shown item child next lent → IsSumFrom plan inputs jobs item next sum → IsSumFrom plan inputs jobs item child (with_child (values_after plan inputs child) (volumes_after plan inputs child) sum)
 sum_with_turn plan inputs jobs shown item child next lent sum shows turn from =

@@ -101,6 +101,7 @@ out_work plan inputs front round kept ready item work parts is same = by (work_a
     by None whole same = absurd whole
     by (Some own) whole same = sym same ∙ whole
 
+-- and the item's work is the one that is kept
 pub out_work_back : (plan : PlanShape) (inputs : List Input) (front : ℕ) (round : RoundShape) (kept ready : List (Option Work)) (item : ℕ) (work : ItemWork) → AreParts plan inputs front round kept ready →
     state_of round.jobs item ≡ Out → work ≡ work_after plan inputs item → IsWork work (work_at kept item)
 out_work_back plan inputs front round kept ready item work parts is same = by (work_at kept item) (parts.works.out item is)

@@ -18,6 +18,7 @@ use Rattle.dirty_plan.specs.declared.job.JobState.{JobState}
 use Rattle.dirty_plan.specs.declared.job.JobState.TheVariants.{Clean, Waiting, Out, Done}
 use Rattle.round_works.specs.Making.{settled}
 
+-- of three numbers the first two can change places
 swap_sum : (v w s : ℤ) → v +ℤ (w +ℤ s) ≡ w +ℤ (v +ℤ s)
 swap_sum v w s = sym (+ℤ_assoc v w s) ∙ ap (λ (z : ℤ). z +ℤ s) (+ℤ_comm v w) ∙ +ℤ_assoc w v s
 
@@ -119,6 +120,7 @@ no_longer a b same = elim (cases_lt b a) [
   | inr above ↦ above
 ]
 
+-- so the longest of the one is no longer than that of the other
 same_longest : (one two : List (List Cell)) → ((t : ℕ) → tally_of one t ≡ tally_of two t) → longest one ≤ longest two
 same_longest one two same = no_longer (longest one) (longest two) (λ t. sym (is_reached-tally_of one t) ∙ ap is_reached (same t) ∙ is_reached-tally_of two t)
 

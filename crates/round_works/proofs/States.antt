@@ -57,6 +57,7 @@ settled_same {X} item (p ∷ ps) (x ∷ one) (y ∷ two) (z ∷ xs) e =
     ap (λ (b : Bool). cond (is_parent item p && not b) (z ∷ settled item ps one xs) (settled item ps one xs)) head
     ∙ ap (λ (l : List X). cond (is_parent item p && not (is_unfinished y)) (z ∷ l) l) rest
 
+-- lists with the same tests have the same tests behind the first few
 drop_same : {X Y : Type 0} (f : X → Y) (n : ℕ) (one two : List X) → map f one ≡ map f two → map f (drop n one) ≡ map f (drop n two)
 drop_same f zero one two e = e
 drop_same f (suc n) [] [] e = refl
@@ -64,17 +65,20 @@ drop_same f (suc n) [] (y ∷ two) e = absurd (cc)
 drop_same f (suc n) (x ∷ one) [] e = absurd (cc)
 drop_same f (suc n) (x ∷ one) (y ∷ two) e = drop_same f n one two (let tail : map f one ≡ map f two = cc in tail)
 
+-- so whether an item has an unfinished child is the same
 pub unfinished_same : (parents : List (Option ℕ)) (one two : List JobState) (item : ℕ) → map is_unfinished one ≡ map is_unfinished two →
     has_unfinished_child parents one item ≡ has_unfinished_child parents two item
 unfinished_same parents one two item e =
     any_same item (drop (suc item) parents) (drop (suc item) one) (drop (suc item) two) (drop_same is_unfinished (suc item) one two e)
 
+-- so are its settled children
 settled_from_same : {X : Type 0} (plan : PlanShape) (one two : List JobState) (f : ℕ → X) (item : ℕ) → map is_unfinished one ≡ map is_unfinished two →
     settled_from plan one f item (suc item) ≡ settled_from plan two f item (suc item)
 settled_from_same plan one two f item e =
     settled_same item (drop (suc item) plan.parents) (drop (suc item) one) (drop (suc item) two)
     (map f (range_with_len (suc item) (length plan.parents - suc item))) (drop_same is_unfinished (suc item) one two e)
 
+-- and a work in the making stays one
 part_same : (plan : PlanShape) (inputs : List Input) (one two : List JobState) (item : ℕ) (work : Option Work) → map is_unfinished one ≡ map is_unfinished two →
     IsPartWork plan inputs one item work → IsPartWork plan inputs two item work
 part_same plan inputs one two item None e part = part

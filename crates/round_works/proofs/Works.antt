@@ -82,6 +82,7 @@ record IsBehind (item k : ℕ) : Type 0 where
   place : ℕ
   is : k ≡ suc item + place
 
+-- each place behind an item is one
 behind : (item k : ℕ) → item < k → IsBehind item k
 behind item k before = record { place = k - suc item; is = omega arith }
 
@@ -101,6 +102,7 @@ pub record IsUnfinishedAt (plan : PlanShape) (jobs : List JobState) (item k : �
   pub own : is_parent item (get_or (drop (suc item) plan.parents) place None) ≡ true
   pub unfinished : is_unfinished (get_or (drop (suc item) jobs) place Clean) ≡ true
 
+-- each child with an unfinished job is at one
 pub unfinished_at : (plan : PlanShape) (jobs : List JobState) (item k : ℕ) → item < k → k < length plan.parents → k < length jobs →
     is_parent item (get_or plan.parents k None) ≡ true → is_unfinished (state_of jobs k) ≡ true → IsUnfinishedAt plan jobs item k
 unfinished_at plan jobs item k before inside within own unfinished =
@@ -131,6 +133,7 @@ settled_done plan jobs f item k tallies inside at short sum =
     subst (λ (js : List JobState). IsSumOf (settled item (drop (suc item) plan.parents) js xs) (with_cells (f k) tallies)) (sym (drop_done plan jobs item k at))
     (sum_settled_more item (drop (suc item) plan.parents) (drop (suc item) jobs) xs at.place (f k) tallies at.inside at.within at.own at.unfinished there short sum)
 
+-- and there is one settled child more
 count_done : {X : Type 0} (plan : PlanShape) (jobs : List JobState) (f : ℕ → X) (item k : ℕ) → k < length plan.parents → IsUnfinishedAt plan jobs item k →
     length (settled_from plan (slice_set jobs k Done) f item (suc item)) ≡ length (settled_from plan jobs f item (suc item)) + 1
 count_done {X} plan jobs f item k inside at =
@@ -175,6 +178,7 @@ part_whole plan inputs jobs item (Some (Inner sum)) same inside none part =
     long : (f : ℕ → List Cell) → length (drop (suc item) jobs) ≡ length (map f (range_with_len (suc item) (length plan.parents - suc item)))
     long f = omega (arith, length-drop (suc item) jobs, length-map-range_with_len f (suc item) (length plan.parents - suc item))
 
+-- an item is the parent that it is
 is_own : (i : ℕ) (parent : Option ℕ) → is_parent i parent ≡ true → parent ≡ Some i
 is_own i None e = absurd (let never : false ≡ true = e in cc)
 is_own i (Some q) e = ap (λ (n : ℕ). Some n) (let same : q ≡ i = grind (arith, nat_tests) in same)
@@ -193,6 +197,7 @@ added_own : (parent : Option ℕ) (i : ℕ) (value prev : List Cell) (works : Li
 added_own parent i value prev works e within =
     ap (λ (p : Option ℕ). work_at (added_to p value prev works) i) e ∙ get_or-set_same works i (with_flows value prev (work_at works i)) None within
 
+-- as many works as before
 pub added_length : (parent : Option ℕ) (value prev : List Cell) (works : List (Option Work)) → length (added_to parent value prev works) ≡ length works
 added_length None value prev works = refl
 added_length (Some q) value prev works = length-set works q (with_flows value prev (work_at works q))
@@ -209,6 +214,7 @@ unfinished_other plan jobs i k state other = elim (cases_lt i k) [
   | inr after ↦ ap (λ (js : List JobState). list_any is_unfinished (of_children i (drop (suc i) plan.parents) js)) (drop_before (suc i) k jobs state (omega (arith, after)))
 ]
 
+-- so are the settled children
 settled_as : {X : Type 0} (plan : PlanShape) (jobs : List JobState) (f : ℕ → X) (i k : ℕ) (state : JobState) → is_parent i (get_or plan.parents k None) ≡ false →
     settled_from plan (slice_set jobs k state) f i (suc i) ≡ settled_from plan jobs f i (suc i)
 settled_as {X} plan jobs f i k state other = elim (cases_lt i k) [
@@ -221,6 +227,7 @@ settled_as {X} plan jobs f i k state other = elim (cases_lt i k) [
   | inr after ↦ ap (λ (js : List JobState). settled i (drop (suc i) plan.parents) js (map f (range_with_len (suc i) (length plan.parents - suc i)))) (drop_before (suc i) k jobs state (omega (arith, after)))
 ]
 
+-- and a work in the making stays one
 part_other : (plan : PlanShape) (inputs : List Input) (jobs : List JobState) (i k : ℕ) (state : JobState) (slot : Option Work) → is_parent i (get_or plan.parents k None) ≡ false →
     IsPartWork plan inputs jobs i slot → IsPartWork plan inputs (slice_set jobs k state) i slot
 part_other plan inputs jobs i k state None other part = part

@@ -1,6 +1,7 @@
 -- What a round keeps beside the states of its jobs: two copies of each touched item's work, one to hand out and one to
 -- compare with what comes back. A sum is in the making while a child of its item has an unfinished job.
-use Rattle.std.specs.Prelude.{◌≡◌, ℕ, suc, ◌-◌, ◌≤◌, not, ◌&&◌, IsTrue, IsFalse, List, [], ◌∷◌, map, drop, length, slice_index_or, Option, Some, None, if◌then◌else◌, All}
+use Rattle.std.specs.Prelude.{◌≡◌, ℕ, suc, ◌-◌, ◌≤◌, not, ◌&&◌, IsTrue, IsFalse, if◌then◌else◌, List, [], ◌∷◌, All}
+use Rattle.std.specs.Prelude.{map, drop, length, slice_index_or, Option, Some, None}
 use Rattle.std.specs.List.{list_any, range_with_len}
 use Rattle.aggregate_tree.specs.Sum.{Sum}
 use Rattle.aggregate_tree.specs.Tallies.{IsSumOf}
@@ -32,7 +33,8 @@ settled item (parent ∷ parents) (job ∷ jobs) (x ∷ xs) =
 -- the same of the children that stand from one item on, of what is made of each
 abbrev pub settled_from : {X : Type 0} → PlanShape → List JobState → (ℕ → X) → ℕ → ℕ → List X
 settled_from plan jobs f item first =
-    settled item (drop first plan.parents) (drop first jobs) (map f (range_with_len first (length plan.parents - first)))
+    settled item (drop first plan.parents) (drop first jobs)
+    (map f (range_with_len first (length plan.parents - first)))
 
 -- the cells of values, and of volumes, that an item has after these inputs
 abbrev pub values_after : PlanShape → List Input → ℕ → List Cell
@@ -42,7 +44,8 @@ abbrev pub volumes_after : PlanShape → List Input → ℕ → List Cell
 volumes_after plan inputs item = (table_after plan inputs item).prev
 
 -- a sum is that of an item's settled children from one item on, each with its table after these inputs
-pub record IsSumFrom (plan : PlanShape) (inputs : List Input) (jobs : List JobState) (item first : ℕ) (sum : Sum) : Type 0 where
+pub record IsSumFrom (plan : PlanShape) (inputs : List Input) (jobs : List JobState) (item first : ℕ)
+    (sum : Sum) : Type 0 where
   pub room : length sum.value ≡ 256
   pub room_prev : length sum.prev ≡ 256
   pub count : sum.children ≡ length (settled_from plan jobs (values_after plan inputs) item first)
@@ -71,7 +74,8 @@ abbrev pub BothPass : (Option Work → Type 0) → List (Option Work) → List (
 BothPass P kept ready item = P (work_at kept item) × P (work_at ready item)
 
 -- the two copies of the works of a round over these inputs
-pub record AreWorks (plan : PlanShape) (inputs : List Input) (jobs : List JobState) (kept ready : List (Option Work)) : Type 0 where
+pub record AreWorks (plan : PlanShape) (inputs : List Input) (jobs : List JobState)
+    (kept ready : List (Option Work)) : Type 0 where
   -- an item waits while a child has an unfinished job, and its works are in the making
   pub waits : (item : ℕ) → IsTrue (has_unfinished_child plan.parents jobs item) → state_of jobs item ≡ Waiting
   pub in_making : (item : ℕ) → IsTrue (has_unfinished_child plan.parents jobs item) →
@@ -82,7 +86,8 @@ pub record AreWorks (plan : PlanShape) (inputs : List Input) (jobs : List JobSta
   pub out : (item : ℕ) → state_of jobs item ≡ Out → IsWholeWork plan inputs item (work_at kept item)
 
 -- the parts of a round of a plan over these inputs
-pub record AreParts (plan : PlanShape) (inputs : List Input) (front : ℕ) (round : RoundShape) (kept ready : List (Option Work)) : Type 0 where
+pub record AreParts (plan : PlanShape) (inputs : List Input) (front : ℕ) (round : RoundShape)
+    (kept ready : List (Option Work)) : Type 0 where
   pub whole : front ≡ length inputs
   pub fits : All (FitsPlan plan) inputs
   pub few : length plan.parents ≤ 512

@@ -1,5 +1,6 @@
 -- The works with which a round opens: of an inner item the sum of its children without a job, as they are shown.
-use Rattle.std.specs.Prelude.{◌≡◌, ℕ, ◌<◌, ◌≤◌, Bool, IsTrue, not, ◌&&◌, List, All, map, length, slice_get, slice_index_or, Option, Some, None}
+use Rattle.std.specs.Prelude.{◌≡◌, ℕ, ◌<◌, ◌≤◌, Bool, IsTrue, not, ◌&&◌, List, All, map, length}
+use Rattle.std.specs.Prelude.{slice_get, slice_index_or, Option, Some, None}
 use Rattle.std.specs.declared.alloc.Global.{Global}
 use Rattle.std.specs.declared.sync.Arc.{Arc}
 use Rattle.series_tables.specs.Cells.{Rows, cell}
@@ -18,7 +19,8 @@ use Rattle.round_works.specs.Works.{table_after}
 use Rattle.round_works.specs.declared.work.Work.{Work}
 
 -- what is shown for the items without a job is what they have after these inputs, and every job waits
-pub record ShowsOthers (plan : PlanShape) (inputs : List Input) (jobs : List JobState) (shown : List (Arc NodeTable Global)) : Type 0 where
+pub record ShowsOthers (plan : PlanShape) (inputs : List Input) (jobs : List JobState)
+    (shown : List (Arc NodeTable Global)) : Type 0 where
   pub fits : All (FitsPlan plan) inputs
   pub items : length jobs ≡ length plan.parents
   pub waiting : (item : ℕ) → IsTrue (is_job (state_of jobs item)) → state_of jobs item ≡ Waiting
@@ -26,7 +28,8 @@ pub record ShowsOthers (plan : PlanShape) (inputs : List Input) (jobs : List Job
       slice_get (map shared_table shown) item ≡ Some (table_after plan inputs item)
 
 -- and tables have the last values of these inputs
-pub record IsBeginning (plan : PlanShape) (inputs : List Input) (rows : Rows) (jobs : List JobState) (shown : List (Arc NodeTable Global)) : Type 0 where
+pub record IsBeginning (plan : PlanShape) (inputs : List Input) (rows : Rows) (jobs : List JobState)
+    (shown : List (Arc NodeTable Global)) : Type 0 where
   pub values : (kind : Kind) (leaf period : ℕ) → cell rows kind leaf period ≡ last_value inputs kind leaf period
   pub shows : ShowsOthers plan inputs jobs shown
 

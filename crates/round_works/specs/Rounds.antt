@@ -1,6 +1,7 @@
--- A round over some inputs as its callers see it: its front and where its jobs stand, what opens it, and what a call does
--- to it. It is this product's own.
-use Rattle.std.specs.Prelude.{◌≡◌, ℕ, ◌<◌, Bool, IsTrue, IsFalse, List, All, map, length, slice_get, slice_set, Option, Some, None}
+-- A round over some inputs as its callers see it: its front and where its jobs stand, what opens it, and what a call
+-- does to it. It is this product's own.
+use Rattle.std.specs.Prelude.{◌≡◌, ℕ, ◌<◌, Bool, IsTrue, IsFalse, List, All, map, length}
+use Rattle.std.specs.Prelude.{slice_get, slice_set, Option, Some, None}
 use Rattle.std.specs.declared.alloc.Global.{Global}
 use Rattle.std.specs.declared.sync.Arc.{Arc}
 use Rattle.series_tables.specs.Cells.{Rows, cell}
@@ -41,9 +42,10 @@ with_job round item state = record { front = round.front; jobs = slice_set round
 abbrev pub IsRoundOver : PlanShape → List Input → OpenRound → Type 0
 IsRoundOver plan inputs round = AreParts plan inputs round.front round.jobs round.kept.items round.ready.items
 
--- what a round over these inputs opens with: their number, tables with their last values, which leaves are named since the
--- shown tables, and for each item that isn't touched since then the table that it has after them
-pub record IsOpening (plan : PlanShape) (inputs : List Input) (front : ℕ) (rows : Rows) (is_named : ℕ → Bool) (shown : List (Arc NodeTable Global)) : Type 0 where
+-- what a round over these inputs opens with: their number, tables with their last values, which leaves are named since
+-- the shown tables, and for each item that isn't touched since then the table that it has after them
+pub record IsOpening (plan : PlanShape) (inputs : List Input) (front : ℕ) (rows : Rows) (is_named : ℕ → Bool)
+    (shown : List (Arc NodeTable Global)) : Type 0 where
   pub whole : front ≡ length inputs
   pub fits : All (FitsPlan plan) inputs
   pub values : (kind : Kind) (leaf period : ℕ) → cell rows kind leaf period ≡ last_value inputs kind leaf period
@@ -60,7 +62,8 @@ IsOut plan inputs round job = (state_of round.jobs job.item ≡ Out) × (job ≡
 
 -- a job is out in a round that is a plan's over some inputs
 abbrev pub IsOutIn : PlanShape → OpenRound → ItemJob → Type 0
-IsOutIn plan round job = (inputs : List Input) × (IsRoundOver plan inputs round × IsOut plan inputs (round_in round) job)
+IsOutIn plan round job =
+    (inputs : List Input) × (IsRoundOver plan inputs round × IsOut plan inputs (round_in round) job)
 
 -- no job is ready, and nothing changed; or a job that is ready is handed out, and is out from then on
 abbrev pub HandsOut : PlanShape → List Input → Round → Option Job → Round → Type 0
@@ -73,4 +76,5 @@ HandsOut plan inputs old (Some job) new =
 -- a copy of an item's job that is out, or none where it isn't
 abbrev pub IsCopyOut : PlanShape → List Input → Round → ℕ → Option Job → Type 0
 IsCopyOut plan inputs round item None = ¬ (state_of round.jobs item ≡ Out)
-IsCopyOut plan inputs round item (Some job) = (state_of round.jobs item ≡ Out) × (job_in job ≡ job_after plan inputs item)
+IsCopyOut plan inputs round item (Some job) =
+    (state_of round.jobs item ≡ Out) × (job_in job ≡ job_after plan inputs item)

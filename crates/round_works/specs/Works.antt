@@ -33,7 +33,8 @@ work_of_leaf value_at =
 -- an inner item's work, from what stands at each kind, leaf and period and from the leaves under the item
 abbrev pub work_over_leaves : (Kind → ℕ → ℕ → Option ℤ) → ℕ → List ℕ → ItemWork
 work_over_leaves value_at reference leaves =
-    inner_work (added (values_of_leaves value_at reference leaves)) (added (volumes_of_leaves value_at reference leaves))
+    inner_work (added (values_of_leaves value_at reference leaves))
+    (added (volumes_of_leaves value_at reference leaves))
 
 -- an item's work, from what stands at each kind, leaf and period
 abbrev pub item_work : (Kind → ℕ → ℕ → Option ℤ) → PlanShape → ℕ → ItemWork

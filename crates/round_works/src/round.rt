@@ -42,9 +42,10 @@ impl OpenRound {
     ghost use Rattle.round_works.specs.Tables.{shared_table};
     ghost use Rattle.round_works.specs.Works.{table_after, work_in};
 
-    /// Opens a round at a front, which is the number of inputs whose last values the tables have. A leaf has its flag set
-    /// where some of these inputs came since the tables on the board; the board shows what the items that aren't touched
-    /// have at the front. All memory that the round needs is taken here.
+    /// Opens a round at a front, which is the number of inputs whose last values the tables have. There is a flag for
+    /// each item, and a leaf has it set where some of these inputs named it since the tables on the board; the board
+    /// shows what the items that aren't touched since then have at the front. All memory that the round needs is taken
+    /// here.
     pub fn open(
         alloc: Global,
         plan: &Plan,
@@ -98,8 +99,8 @@ impl OpenRound {
         self.jobs.first_left()
     }
 
-    /// Hands out the least job that is ready: its work is what the item has at the round's front. It is out from then on.
-    /// None where no job is ready. It takes no memory.
+    /// Hands out the least job that is ready: its work is what the item has at the round's front. It is out from then
+    /// on. None where no job is ready. It takes no memory.
     pub fn hand_out(&mut self, plan: &Plan) -> Option<Job>
         ensures job { (inputs : List Input) → IsRoundOver plan.now inputs self.old →
             HandsOut plan.now inputs (round_in self.old) result (round_in self.new) }
@@ -149,23 +150,26 @@ impl OpenRound {
     pub fn take_back(&mut self, job: Job)
         requires { state_of (round_in self.old).jobs job.node ≡ Out }
         ensures job { round_in self.new ≡ with_job (round_in self.old) job.node Waiting }
-        ensures works { (plan : PlanShape) (inputs : List Input) → IsRoundOver plan inputs self.old →
-            IsOut plan inputs (round_in self.old) (job_in job) → IsRoundOver plan inputs self.new }
+        ensures works { (plan : PlanShape) (inputs : List Input) →
+            IsRoundOver plan inputs self.old → IsOut plan inputs (round_in self.old) (job_in job) →
+            IsRoundOver plan inputs self.new }
     {
         self.jobs.put_back(job.node);
         self.ready[job.node as usize] = Some(job.work);
     }
 
-    /// Ends a job that is out, and gives its table, which is the one that the item has at the round's front. A parent that
-    /// has a job gets the table's flows. It takes no memory.
+    /// Ends a job that is out, and gives its table, which is the one that the item has at the round's front. A parent
+    /// that has a job gets the table's flows. It takes no memory.
     pub fn finish(&mut self, plan: &Plan, made: Compiled) -> Arc<NodeTable>
         requires { IsOutIn plan.now self.old (job_made made) }
         ensures job { round_in self.new ≡ with_job (round_in self.old) made.node Done }
         ensures table { result ≡ made.table }
-        ensures worth { (inputs : List Input) → IsOut plan.now inputs (round_in self.old) (job_made made) →
+        ensures worth { (inputs : List Input) →
+            IsOut plan.now inputs (round_in self.old) (job_made made) →
             shared_table result ≡ table_after plan.now inputs made.node }
         ensures works { (inputs : List Input) → IsRoundOver plan.now inputs self.old →
-            IsOut plan.now inputs (round_in self.old) (job_made made) → IsRoundOver plan.now inputs self.new }
+            IsOut plan.now inputs (round_in self.old) (job_made made) →
+            IsRoundOver plan.now inputs self.new }
     {
         self.jobs.finish(made.node);
         let parent = plan.parent(made.node);

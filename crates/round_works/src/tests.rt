@@ -8,7 +8,7 @@ ghost use Rattle.series_tables.specs.Plan.{is_leaf};
 use crate::{CompileEnd, Compiled, Job, OpenRound, compile};
 use node_compile::{NodeTable, compile_all};
 use price_base::Cell;
-use qna_base::Steps;
+use qna_base::{Memory, Steps};
 use series_tables::{Input, Kind, Plan, Tables};
 use std::alloc::Global;
 use std::marker::Brand;
@@ -159,62 +159,115 @@ fn has_quarters(table: &NodeTable, value: i128) -> bool {
     table.flows.value.as_slice() == [Cell::Value(value); 4].as_slice()
 }
 
-#[test]
-fn two_leaves_make_their_total(rt: HostRuntime) -> Result<(), Fail> {
-    let alloc = rt.alloc();
-    let plan = plan_of(&rt, alloc)?;
-    let mut steps = Steps::<Brand>::open(Blank::new(1));
-    let mut round = opened(alloc, &plan, &mut steps)?;
-    let begun = (round.front(), round.jobs(), round.first_left());
-    assert_eq!(rt; begun, (10, 3, Some(0)));
-    for (item, value) in [(1, 100), (2, 200), (0, 300)] {
-        let Some((node, table)) = work(alloc, &mut round, &plan, &mut steps) else {
-            return Err(Fail::new("a job that is ready"));
-        };
-        assert!(rt; node == item && has_quarters(&table, value));
+/// Whether the next job is this item's, and its table has this value in each of four quarters.
+fn makes<L: Ledger>(
+    alloc: Global,
+    round: &mut OpenRound,
+    plan: &Plan,
+    steps: &mut Steps<L>,
+    item: u16,
+    value: i128,
+) -> bool
+    requires { IsDriven plan.now round.old }
+    ensures { IsDriven plan.now round.new }
+{
+    match work(alloc, round, plan, steps) {
+        Some((node, table)) => node == item && has_quarters(&table, value),
+        None => false,
     }
-    assert!(rt; round.first_left().is_none());
-    Ok(())
+}
+
+/// Whether the two leaves and then their total are made, and no job is left.
+fn makes_all<L: Ledger>(
+    alloc: Global,
+    round: &mut OpenRound,
+    plan: &Plan,
+    steps: &mut Steps<L>,
+) -> bool
+    requires { IsDriven plan.now round.old }
+{
+    round.front() == 10
+        && round.jobs() == 3
+        && makes(alloc, round, plan, steps, 1, 100)
+        && makes(alloc, round, plan, steps, 2, 200)
+        && makes(alloc, round, plan, steps, 0, 300)
+        && round.first_left().is_none()
+}
+
+/// Hands out two jobs, and gives each the work of the other.
+fn swapped(round: &mut OpenRound, plan: &Plan) -> Option<(Job, Job)>
+    requires { IsDriven plan.now round.old }
+    ensures { IsDriven plan.now round.new }
+{
+    let mut first = round.hand_out(plan)?;
+    let mut second = round.hand_out(plan)?;
+    swap(&mut first.work, &mut second.work);
+    Some((first, second))
+}
+
+/// Whether a job with another work isn't out, nor what is made of one.
+fn refuses_swapped<L: Ledger>(
+    alloc: Global,
+    round: &mut OpenRound,
+    plan: &Plan,
+    steps: &mut Steps<L>,
+) -> bool
+    requires { IsDriven plan.now round.old }
+{
+    let Some((food, services)) = swapped(round, plan) else {
+        return false;
+    };
+    if round.is_out(plan, &services) {
+        return false;
+    }
+    match compile(alloc, food, steps) {
+        CompileEnd::Compiled(made) => hand_in(round, plan, made).is_none(),
+        CompileEnd::Memory(_) => false,
+    }
+}
+
+/// Whether a job that comes back is handed out again, and is then the one that is copied.
+fn hands_out_again(round: &mut OpenRound, plan: &Plan) -> Result<bool, Memory>
+    requires { IsDriven plan.now round.old }
+{
+    let Some(job) = round.hand_out(plan) else {
+        return Ok(false);
+    };
+    let node = job.node;
+    let Some(again) = exchange(round, plan, job) else {
+        return Ok(false);
+    };
+    match round.copy_out(plan, node)? {
+        Some(copy) => Ok(again.node == node && round.is_out(plan, &copy)),
+        None => Ok(false),
+    }
+}
+
+/// Whether rounds do so.
+fn driven<L: Ledger>(blank: Blank, alloc: Global, plan: &Plan) -> Result<[bool; 3], Fail>
+    requires items { length plan.now.names ≡ 3 }
+    requires food { IsTrue (is_leaf plan.now 1) }
+    requires services { IsTrue (is_leaf plan.now 2) }
+    requires name { blank.name ≡ L.name }
+    requires parts { blank.parts ≡ L.parts }
+    requires some { 0 < blank.parts }
+{
+    let mut steps = Steps::<L>::open(blank);
+    let mut round = opened(alloc, plan, &mut steps)?;
+    let is_all_made = makes_all(alloc, &mut round, plan, &mut steps);
+    let mut round = opened(alloc, plan, &mut steps)?;
+    let is_swapped_refused = refuses_swapped(alloc, &mut round, plan, &mut steps);
+    let mut round = opened(alloc, plan, &mut steps)?;
+    let is_handed_out_again = hands_out_again(&mut round, plan)?;
+    Ok([is_all_made, is_swapped_refused, is_handed_out_again])
 }
 
 #[test]
-fn a_job_that_comes_back_is_handed_out_again(rt: HostRuntime) -> Result<(), Fail> {
-    let alloc = rt.alloc();
-    let plan = plan_of(&rt, alloc)?;
-    let mut steps = Steps::<Brand>::open(Blank::new(1));
-    let mut round = opened(alloc, &plan, &mut steps)?;
-    let Some(job) = round.hand_out(&plan) else {
-        return Err(Fail::new("a job that is ready"));
-    };
-    let Some(copy) = round.copy_out(&plan, 1)? else {
-        return Err(Fail::new("a copy of a job that is out"));
-    };
-    assert!(rt; round.is_out(&plan, &copy));
-    let Some(again) = exchange(&mut round, &plan, job) else {
-        return Err(Fail::new("a job that came back"));
-    };
-    assert!(rt; again.node == 1 && round.copy_out(&plan, 2)?.is_none());
-    Ok(())
-}
-
-#[test]
-fn a_job_with_another_work_is_not_out(rt: HostRuntime) -> Result<(), Fail> {
-    let alloc = rt.alloc();
-    let plan = plan_of(&rt, alloc)?;
-    let mut steps = Steps::<Brand>::open(Blank::new(1));
-    let mut round = opened(alloc, &plan, &mut steps)?;
-    let Some(mut food) = round.hand_out(&plan) else {
-        return Err(Fail::new("a first job that is ready"));
-    };
-    let Some(mut services) = round.hand_out(&plan) else {
-        return Err(Fail::new("a second job that is ready"));
-    };
-    swap(&mut food.work, &mut services.work);
-    assert!(rt; !round.is_out(&plan, &services));
-    let CompileEnd::Compiled(made) = compile(alloc, food, &mut steps) else {
-        return Err(Fail::new("a table"));
-    };
-    assert!(rt; has_quarters(&made.table, 200));
-    assert!(rt; hand_in(&mut round, &plan, made).is_none());
+fn two_leaves_make_their_total_and_a_job_that_comes_back_is_handed_out_again(
+    rt: HostRuntime,
+) -> Result<(), Fail> {
+    let plan = plan_of(&rt, rt.alloc())?;
+    let driven = driven::<Brand>(Blank::new(1), rt.alloc(), &plan)?;
+    assert_eq!(rt; driven, [true, true, true]);
     Ok(())
 }
