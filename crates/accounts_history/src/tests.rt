@@ -1,6 +1,6 @@
 // A history over a total of two leaves.
 
-ghost use Rattle.std.specs.Prelude.{◌≡◌, IfOk, length};
+ghost use Rattle.std.specs.Prelude.{◌≡◌, IfOk, length, pos};
 ghost use Rattle.accounts_history.specs.History.{IsLawful, journal};
 
 use crate::{Entry, named_since};
@@ -44,7 +44,9 @@ fn what_came_since_a_front_is_named(rt: HostRuntime) -> Result<(), Fail> {
     let alloc = rt.alloc();
     let plan = Plan::read(alloc, PLAN)?;
     let history = history_of(alloc, &plan)?;
-    assert_eq!(&rt; named_since(alloc, &plan, &history, 1, 2)?.as_slice(), &[false, false, true]);
-    assert_eq!(rt; named_since(alloc, &plan, &history, 0, 2)?.as_slice(), &[false, true, true]);
+    let last = named_since(alloc, &plan, &history, 1, 2)?;
+    assert_eq!(&rt; last.as_slice(), [false, false, true].as_slice());
+    let both = named_since(alloc, &plan, &history, 0, 2)?;
+    assert_eq!(rt; both.as_slice(), [false, true, true].as_slice());
     Ok(())
 }
