@@ -221,7 +221,7 @@ in_range kind period value few least most =
 
 input_judged : (plan : PlanShape) (sent : Sent) → IsFineSent plan sent → judgement plan sent.input.kind (name_of plan.names sent.input.leaf) (Some sent.input.period) sent.input.value ≡ Ok sent.input
 input_judged plan sent fine =
-    rw (fine.found, not_zero sent.input.kind sent.input.value fine.least, in_range sent.input.kind sent.input.period sent.input.value fine.period fine.least fine.most) refl
+    rw (fine.found, not_zero sent.input.kind sent.input.value fine.least, in_range sent.input.kind sent.input.period sent.input.value fine.period fine.least fine.most, judgement) refl
 
 line_judged : AreYearsRead → AreQuartersRead → (n : ℕ) (plan : PlanShape) (sent : Sent) → IsFineSent plan sent → judged_line plan (record { number = n; long = false; text = body_of plan sent }) ≡ Taken sent.input
 unfolding judged_line
@@ -272,7 +272,7 @@ sent_fine plan sent kept fits first last =
     record {
       name = named.0;
       short = named.1;
-      found = rw (found, own) refl;
+      found = rw (found, own, leaf_with_name) refl;
       period = fits.room.period;
       least = fits.room.least;
       most = fits.room.most;
