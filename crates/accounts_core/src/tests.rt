@@ -1,5 +1,7 @@
 // A core over a total and its two leaves, driven by hand.
 
+ghost use Rattle.std.specs.Prelude.{◌≡◌, ◌<◌};
+
 use crate::{
     Accept, Begin, CompileEnd, Compiled, Core, Done, Entry, Job, Publish, PutBack, Take, compile,
 };
@@ -121,98 +123,167 @@ fn refused(core: &mut Core, job: Job) -> Result<Job, Fail> {
     }
 }
 
-#[test]
-fn a_round_stays_at_its_front_and_takes_its_own_jobs(rt: HostRuntime) -> Result<(), Fail> {
-    let alloc = rt.alloc();
-    let mut core = core_of(alloc)?;
-    assert_eq!(&rt; send_year(&mut core, b"FOOD", 100, 1000)?, 5);
-    assert_eq!(&rt; core.begin()?, Begin::Opened { front: 5, jobs: 2 });
-    let food = take(&mut core)?;
-    assert_eq!(&rt; food.node, 1);
-    let next = send(&mut core, b"FOOD", Kind::Indicator, 0, 200)?;
-    assert_eq!(&rt; next, Accept::Number(6));
-    assert!(&rt; is_none_ready(&mut core));
-    assert_eq!(&rt; core.begin()?, Begin::RoundOpen(5));
-    assert_eq!(&rt; core.publish(1), Publish::Waiting(0));
-    let made = made_of(alloc, food)?;
-    assert!(&rt; hand_in(&mut core, made));
-    assert_eq!(&rt; work(alloc, &mut core)?, 0);
-    assert!(&rt; !shows(&core, 1, 0, 250));
-    assert_eq!(&rt; core.publish(1), Publish::Published(5));
-    assert!(&rt; shows(&core, 1, 5, 250));
-    assert_eq!(&rt; core.begin()?, Begin::Opened { front: 6, jobs: 2 });
-    assert_eq!(&rt; take(&mut core)?.node, 1);
+/// Begins a round. Answers whether it goes up to this front and has so many jobs.
+fn opens(core: &mut Core, front: u64, jobs: u16) -> Result<bool, Fail> {
+    let answer = core.begin()?;
+    Ok(answer == Begin::Opened { front, jobs })
+}
+
+/// Whether a round of FOOD's first five inputs stays at its front while FOOD's job is out and another input comes.
+fn stays_at_its_front(core: &mut Core) -> Result<bool, Fail> {
+    let next = send(core, b"FOOD", Kind::Indicator, 0, 200)?;
+    let begun = core.begin()?;
+    Ok(
+        next == Accept::Number(6)
+            && begun == Begin::RoundOpen(5)
+            && is_none_ready(core)
+            && core.publish(1) == Publish::Waiting(0),
+    )
+}
+
+/// Compiles and hands in a job that was taken, and publishes once TOTAL's job is done too. Answers the front.
+fn publishes(alloc: Global, core: &mut Core, job: Job) -> Result<Publish, Fail> {
+    let made = made_of(alloc, job)?;
+    if !hand_in(core, made) || work(alloc, core)? != 0 || shows(core, 1, 0, 250) {
+        return Err(Fail::new("two jobs that are out, and nothing of them shown"));
+    }
+    Ok(core.publish(1))
+}
+
+/// The job of FOOD in the round of a core of its own, with six inputs of other values.
+fn strange_job(alloc: Global) -> Result<Job, Fail> {
     let mut other = core_of(alloc)?;
     send_year(&mut other, b"FOOD", 300, 1600)?;
     send(&mut other, b"FOOD", Kind::Indicator, 0, 400)?;
-    assert_eq!(&rt; other.begin()?, Begin::Opened { front: 6, jobs: 2 });
-    let strange = take(&mut other)?;
-    let strange = refused(&mut core, strange)?;
-    let made = made_of(alloc, strange)?;
-    assert!(rt; !hand_in(&mut core, made));
+    opens(&mut other, 6, 2)?;
+    take(&mut other)
+}
+
+/// Whether neither a job nor what is made of it is out.
+fn is_strange(alloc: Global, core: &mut Core, job: Job) -> Result<bool, Fail> {
+    let job = refused(core, job)?;
+    let made = made_of(alloc, job)?;
+    Ok(!hand_in(core, made))
+}
+
+#[test]
+fn a_round_stays_at_its_front(rt: HostRuntime) -> Result<(), Fail> {
+    let mut core = core_of(rt.alloc())?;
+    send_year(&mut core, b"FOOD", 100, 1000)?;
+    assert!(&rt; opens(&mut core, 5, 2)?);
+    let food = take(&mut core)?;
+    assert!(&rt; food.node == 1 && stays_at_its_front(&mut core)?);
+    let published = publishes(rt.alloc(), &mut core, food)?;
+    assert!(rt; published == Publish::Published(5) && shows(&core, 1, 5, 250));
     Ok(())
 }
 
 #[test]
-fn finishing_takes_back_what_is_out(rt: HostRuntime) -> Result<(), Fail> {
-    let alloc = rt.alloc();
-    let mut core = core_of(alloc)?;
-    send_year(&mut core, b"FOOD", 100, 400)?;
-    send_year(&mut core, b"SERV", 200, 800)?;
-    assert_eq!(&rt; core.begin()?, Begin::Opened { front: 10, jobs: 3 });
-    let food = take(&mut core)?;
-    assert!(&rt; matches!(core.put_back(food), PutBack::Kept));
-    let food = take(&mut core)?;
-    assert_eq!(&rt; (food.node, take(&mut core)?.node), (1, 2));
-    send(&mut core, b"SERV", Kind::Price, 0, 7)?;
-    finish(&mut core)?;
-    assert!(&rt; shows(&core, 0, 11, 300) && shows(&core, 2, 11, 200));
-    let release = core.read_all()?;
-    assert_eq!(&rt; (release.front, release.nodes.len()), (11, 3));
+fn a_round_takes_its_own_jobs(rt: HostRuntime) -> Result<(), Fail> {
+    let mut core = core_of(rt.alloc())?;
+    send_year(&mut core, b"FOOD", 100, 1000)?;
+    send(&mut core, b"FOOD", Kind::Indicator, 0, 200)?;
+    assert!(&rt; opens(&mut core, 6, 2)?);
+    let own = take(&mut core)?;
+    let strange = strange_job(rt.alloc())?;
+    assert!(&rt; own.node == 1 && strange.node == 1);
+    assert!(rt; is_strange(rt.alloc(), &mut core, strange)?);
+    Ok(())
+}
+
+/// Takes FOOD's job, puts it back and takes it again, and then takes SERV's. Gives FOOD's.
+fn two_jobs(core: &mut Core) -> Result<Job, Fail> {
+    let first = take(core)?;
+    let PutBack::Kept = core.put_back(first) else {
+        return Err(Fail::new("a job that comes back"));
+    };
+    let food = take(core)?;
+    let services = take(core)?;
+    if (food.node, services.node) == (1, 2) {
+        Ok(food)
+    } else {
+        Err(Fail::new("the two leaves' jobs"))
+    }
+}
+
+/// Whether the last two entries are the publications of two finished rounds, and the release is that of the second.
+fn is_finished_twice(core: &Core) -> Result<bool, Fail> {
     let first = Entry::Publish {
         party: 0,
         front: 10,
         jobs: 3,
     };
-    assert_eq!(&rt; core.history().get(11).copied(), Some(first));
     let last = Entry::Publish {
         party: 0,
         front: 11,
         jobs: 2,
     };
-    assert_eq!(&rt; core.history().last().copied(), Some(last));
-    let made = made_of(alloc, food)?;
-    assert!(rt; !hand_in(&mut core, made));
+    let release = core.read_all()?;
+    Ok(
+        core.history().get(11).copied() == Some(first)
+            && core.history().last().copied() == Some(last)
+            && (release.front, release.nodes.len()) == (11, 3)
+            && shows(core, 0, 11, 300)
+            && shows(core, 2, 11, 200),
+    )
+}
+
+#[test]
+fn finishing_takes_back_what_is_out(rt: HostRuntime) -> Result<(), Fail> {
+    let mut core = core_of(rt.alloc())?;
+    send_year(&mut core, b"FOOD", 100, 400)?;
+    send_year(&mut core, b"SERV", 200, 800)?;
+    assert!(&rt; opens(&mut core, 10, 3)?);
+    let food = two_jobs(&mut core)?;
+    send(&mut core, b"SERV", Kind::Price, 0, 7)?;
+    finish(&mut core)?;
+    assert!(&rt; is_finished_twice(&core)?);
+    assert!(rt; is_strange(rt.alloc(), &mut core, food)?);
     Ok(())
+}
+
+/// Sends FOOD's first indicator. Answers what the core answers.
+fn send_again(core: &mut Core) -> Result<Accept, Fail> {
+    send(core, b"FOOD", Kind::Indicator, 0, 9)
+}
+
+/// Sends 1,024 inputs behind so many that are published, and whether the next is taken only once they are.
+fn goes_ahead(core: &mut Core, published: u64) -> Result<bool, Fail>
+    requires { published < 262144 }
+{
+    let accepted = published + 1024;
+    let mut all = true;
+    for number in published..accepted {
+        all = send_again(core)? == Accept::Number(number + 1) && all;
+    }
+    if accepted < 262144 {
+        core.begin()?;
+        all = send_again(core)?
+            == Accept::Behind {
+                accepted,
+                published,
+            }
+            && all;
+    }
+    finish(core)?;
+    Ok(all)
+}
+
+/// Whether nothing is to be done in a new core.
+fn is_quiet(core: &mut Core) -> Result<bool, Fail> {
+    let begun = core.begin()?;
+    Ok(begun == Begin::Nothing(0) && core.publish(1) == Publish::NoRound && is_none_ready(core))
 }
 
 #[test]
 fn a_journal_is_bounded(rt: HostRuntime) -> Result<(), Fail> {
     let mut core = core_of(rt.alloc())?;
-    assert_eq!(&rt; core.begin()?, Begin::Nothing(0));
-    assert_eq!(&rt; core.publish(1), Publish::NoRound);
-    assert!(&rt; is_none_ready(&mut core));
-    for round in 0..256_u64 {
-        let published = 1024 * round;
-        for number in published..published + 1024 {
-            let answer = send(&mut core, b"FOOD", Kind::Indicator, 0, 9)?;
-            assert_eq!(&rt; answer, Accept::Number(number + 1));
-        }
-        if round < 255 {
-            core.begin()?;
-            let answer = send(&mut core, b"FOOD", Kind::Indicator, 0, 9)?;
-            let accepted = published + 1024;
-            assert_eq!(&rt;
-                answer,
-                Accept::Behind {
-                    accepted,
-                    published
-                }
-            );
-        }
-        finish(&mut core)?;
+    assert!(&rt; is_quiet(&mut core)?);
+    for round in 0..256_u16 {
+        let goes = goes_ahead(&mut core, 1024 * u64::from(round))?;
+        assert!(&rt; goes);
     }
-    let answer = send(&mut core, b"FOOD", Kind::Indicator, 0, 9)?;
+    let answer = send_again(&mut core)?;
     assert_eq!(rt; (answer, core.published()), (Accept::Full, 262144));
     Ok(())
 }

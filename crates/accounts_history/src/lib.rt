@@ -11,6 +11,3 @@ pub use laws::{
     lawful_histories_grow,
 };
 pub use naming::named_since;
-
-#[cfg(test)]
-mod tests;
