@@ -1,3 +1,4 @@
 pub mod Batches
 pub mod Branches
 pub mod CheckEnds
+pub mod Journal

@@ -4,6 +4,7 @@ ghost use Rattle.std.specs.Prelude.{◌<◌};
 mod certificates;
 mod faults;
 mod files;
+mod journals;
 mod limits;
 mod office;
 mod pieces;

@@ -52,9 +52,3 @@ entry_fits plan (Accept party input ∷ history) zero d each inside = one
 entry_fits plan (Publish party front jobs ∷ history) zero d each inside = λ k e below. absurd (omega arith)
 entry_fits plan (Accept party input ∷ history) (suc i) d each inside = entry_fits plan history i d (λ k e below. each (suc k) e (omega arith)) (omega arith)
 entry_fits plan (Publish party front jobs ∷ history) (suc i) d each inside = entry_fits plan history i d each (omega arith)
-
--- two inputs that fit a plan
-pub two_fit : (plan : PlanShape) (first second : Input) → FitsPlan plan first → FitsPlan plan second → All (FitsPlan plan) (first ∷ second ∷ [])
-two_fit plan first second one two zero d below = one
-two_fit plan first second one two (suc zero) d below = two
-two_fit plan first second one two (suc (suc k)) d below = absurd (omega arith)

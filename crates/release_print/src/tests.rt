@@ -1,9 +1,7 @@
 ghost use Rattle.std.specs.Prelude.{◌≡◌, ◌≤◌, ◌<◌, length, IfOk};
 ghost use Rattle.node_compile.specs.Release.{tables_in};
-ghost use Rattle.series_tables.specs.Fits.{FitsPlan};
 
 use super::*;
-use accounts_history::Entry;
 use node_compile::{Release, compile_all};
 use qna_base::{Memory, Steps};
 use series_tables::{Input, Kind, Plan, Tables};
@@ -195,56 +193,5 @@ fn releases_items_and_certificates_are_printed(rt: HostRuntime) -> Result<(), Fa
         print_cert(&plan, 10, 1, &release.nodes[1], &mut text)?;
     }
     assert_eq!(rt; text.as_slice(), b"nocert,NONE,10\n".as_slice());
-    Ok(())
-}
-
-// Appends the journal of two inputs of desks 1 and 16, with a publication between them.
-#[tactic(auto, using(crate::proofs::Journals::two_fit))]
-fn print_two(out: &mut Vec<u8>, plan: &Plan, first: &Input, second: &Input) -> Result<(), Memory>
-    requires first { FitsPlan plan.now first.now }
-    requires second { FitsPlan plan.now second.now }
-{
-    let history = [
-        Entry::Accept {
-            party: 1,
-            input: *first,
-        },
-        Entry::Publish {
-            party: 0,
-            front: 1,
-            jobs: 1,
-        },
-        Entry::Accept {
-            party: 16,
-            input: *second,
-        },
-    ];
-    print_journal(plan, &history, out)
-}
-
-// An input of the first item.
-fn of_first(kind: Kind, period: u16, value: i64) -> Input
-    ensures { result ≡ record { kind = kind; leaf = 0; period = period; value = value } }
-{
-    Input {
-        kind,
-        leaf: 0,
-        period,
-        value,
-    }
-}
-
-#[test]
-fn a_journal_is_printed(rt: HostRuntime) -> Result<(), Fail> {
-    let alloc = rt.alloc();
-    let plan = Plan::read(alloc, PLAN)?;
-    let mut text = Vec::new(alloc);
-    if plan.len() == 2 && plan.is_leaf(0) {
-        let indicator = of_first(Kind::Indicator, 0, 100);
-        let benchmark = of_first(Kind::Benchmark, 1, -400);
-        print_two(&mut text, &plan, &indicator, &benchmark)?;
-    }
-    let lines = b"ind,FOOD,2021Q1,100,1\nbench,FOOD,2022,-400,16\n";
-    assert_eq!(rt; text.as_slice(), lines.as_slice());
     Ok(())
 }
