@@ -1,14 +1,23 @@
 -- How `check` ends where nothing fails.
-use Rattle.std.proofs.Common.{◌≡◌, ◌≤◌, ◌<◌, ◌+◌, ℕ, List, length, Option, Some, IfSome, inl, inr, refl, arith}
+use Rattle.std.proofs.Common.{◌≡◌, ◌≤◌, ◌<◌, ◌+◌, ℕ, List, length, Option, Some, IfSome, inl, inr, refl, ap, arith}
 use Rattle.qna_edges.specs.declared.status.Status.{Status}
 use Rattle.qna_edges.specs.declared.status.Status.TheVariants.{Done, Memory, Usage, PlanFault, OpenFault, ReadFault, WriteFault, CheckNo, TooMuch}
 use Rattle.qna_edges.specs.Paper.{Paper}
-use Rattle.qna_edges.specs.Shelves.{Shelves}
-use Rattle.qna_parts.specs.Trace.{Passes}
+use Rattle.qna_edges.specs.Shelves.{Shelf, Shelves}
+use Rattle.qna_parts.specs.Trace.{Trace, IsReadWhole, IsUnfailed, Passes}
 use Rattle.qna_cli.specs.CheckEnd.{certificate_limit, IsCheckEnd, CheckCompletes}
 
 too_long : (file : Option (List ℕ)) (text : List ℕ) (left : ℕ) → file ≡ Some text → length text ≤ certificate_limit → IfSome file (λ text. Passes certificate_limit 8192 (length text) left) → ⊥
 too_long file text left e few many = let more : Passes certificate_limit 8192 (length text) left = rw e at many in let beyond = more.0 in omega (arith, beyond)
+
+-- nothing failed of a file that was read to its end
+pub unfailed_whole : (limit : ℕ) (file : Trace) → IsReadWhole limit file → IsUnfailed file
+unfailed_whole limit file read = record {
+  opens = ap (λ (s : Shelf). s.opens) read.once;
+  creates = ap (λ (s : Shelf). s.creates) read.once;
+  reads = ap (λ (s : Shelf). s.reads) read.once;
+  writes = ap (λ (s : Shelf). s.writes) read.once;
+}
 
 -- where no count rose and the certificate is within the limit, an end of `check` is at a verdict or for want of memory
 pub check_completes : (old new : Shelves) (before after : Paper) (name : List ℕ) (status : Status) → IsCheckEnd old new before after name status → CheckCompletes old new before after name status

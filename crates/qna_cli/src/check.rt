@@ -40,6 +40,8 @@ fn tell_yes<K: Sink>(report: &mut K) -> Status
     ensures memory { result ≡ Status.Memory →
         Rose (K.paper report.old).wants (K.paper report.new).wants
         × BreaksOff (K.paper report.old) (K.paper report.new) (codes "yes\n") }
+    ensures stands { result ≡ Status.Memory →
+        (K.paper report.new).faults ≡ (K.paper report.old).faults }
     ensures ends { (result ≡ Status.Done)
         ⊎ ((result ≡ Status.WriteFault) ⊎ (result ≡ Status.Memory)) }
 {
@@ -90,6 +92,8 @@ fn tell_found<K: Sink>(alloc: Global, text: &[u8], report: &mut K) -> Status
         ⊎ (Rose (K.paper report.old).wants (K.paper report.new).wants
         × BreaksOff (K.paper report.old) (K.paper report.new) (codes "yes\n")
         × (found text.now ≡ Ok Verdict.Yes)) }
+    ensures stands { result ≡ Status.Memory →
+        (K.paper report.new).faults ≡ (K.paper report.old).faults }
     ensures ends { (result ≡ Status.Memory) ⊎ (ends_at_verdict result ≡ true) }
 {
     match find(alloc, text) {
@@ -104,6 +108,7 @@ fn tell_found<K: Sink>(alloc: Global, text: &[u8], report: &mut K) -> Status
 
 /// Carries out the command `check` with a file's name: reads the certificate, at most 2^20 bytes, and reports the
 /// verdict on it.
+#[tactic(auto, using(crate::proofs::CheckEnds::unfailed_whole))]
 fn check<C: Cabinet, K: Sink>(alloc: Global, name: &str, cabinet: &mut C, report: &mut K) -> Status
     ensures { IsCheckEnd (C.shelves cabinet.old) (C.shelves cabinet.new)
         (K.paper report.old) (K.paper report.new) name.now result }
