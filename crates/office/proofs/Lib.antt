@@ -1,0 +1,4 @@
+pub mod Events
+pub mod Seen
+pub mod Holding
+pub mod Opening

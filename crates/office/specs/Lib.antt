@@ -1,0 +1,5 @@
+pub mod Unique
+pub mod Seen
+pub mod Holds
+pub mod Calls
+pub mod Opening
