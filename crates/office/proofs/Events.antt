@@ -107,8 +107,7 @@ pub publishes_grows : (party : ℕ) (found left : CoreState) (reply : PublishRep
 publishes_grows party found left NoRound step sound = stays_grows party found left (same_stays found left step.1 sound)
 publishes_grows party found left (WaitingFor item) step sound = stays_grows party found left (same_stays found left step.1 sound)
 publishes_grows party found left (Published front) step sound =
-    let there = some_and found.round (Publishing party front found left) step in
-    (
+    let there = some_and found.round (Publishing party front found left) step in (
       ap (λ (s : CoreState). s.plan) there.2.2,
       inr (Publish party there.0.front (job_count there.0.jobs), ap (λ (s : CoreState). s.history) there.2.2, refl),
       lawful_short left.plan left.history sound.lawful,

@@ -83,9 +83,12 @@ Offers party input = Answers (λ reply found left. Accepts found party input rep
 pub offered_number : (before after : Known) (input : Input) (number : ℕ) → OneHold (Offers before.party input (Ok (Number number))) before after → SentOne before.party input number before.seen after.seen
 offered_number before after input number hold =
     let grew : hold.left.history ≡ hold.found.history ++ Accept before.party input ∷ [] = ap (λ (s : CoreState). s.history) hold.happened.3 in
-    let seen : after.seen ≡ hold.found.history ++ Accept before.party input ∷ [] = hold.seen ∙ grew in
-    (hold.found.history, made_sent before.party before.seen hold.found.history hold.others, seen,
-     hold.happened.2 ∙ sym (ap (λ (h : List Entry). length (journal h)) seen ∙ length-journal-accept hold.found.history before.party input))
+    let seen : after.seen ≡ hold.found.history ++ Accept before.party input ∷ [] = hold.seen ∙ grew in (
+      hold.found.history,
+      made_sent before.party before.seen hold.found.history hold.others,
+      seen,
+      hold.happened.2 ∙ sym (ap (λ (h : List Entry). length (journal h)) seen ∙ length-journal-accept hold.found.history before.party input),
+    )
 
 pub offered_full : (before after : Known) (input : Input) → OneHold (Offers before.party input (Ok Full)) before after
     → SentNothing before.party before.seen after.seen × (length (journal after.seen) ≡ most_inputs)
@@ -118,9 +121,12 @@ ran_wanting before after job hold = stayed _ before after hold (puts_back_stays 
 
 pub published_front : (before after : Known) (front : ℕ) → OneHold (λ found left. Publishes found before.party (Published front) left) before after → Helps (helped.Published front) before after
 published_front before after front hold =
-    let there = some_and hold.found.round (Publishing before.party front hold.found hold.left) hold.happened in
-    (hold.found.history, job_count there.0.jobs, hold.others,
-     hold.seen ∙ ap (λ (s : CoreState). s.history) there.2.2 ∙ ap (λ (n : ℕ). hold.found.history ++ Publish before.party n (job_count there.0.jobs) ∷ []) (sym there.2.1))
+    let there = some_and hold.found.round (Publishing before.party front hold.found hold.left) hold.happened in (
+      hold.found.history,
+      job_count there.0.jobs,
+      hold.others,
+      hold.seen ∙ ap (λ (s : CoreState). s.history) there.2.2 ∙ ap (λ (n : ℕ). hold.found.history ++ Publish before.party n (job_count there.0.jobs) ∷ []) (sym there.2.1),
+    )
 
 pub published_waits : (before after : Known) (item : ℕ) → OneHold (λ found left. Publishes found before.party (WaitingFor item) left) before after → Helps helped.Idle before after
 published_waits before after item hold =
@@ -170,13 +176,14 @@ begun_opened before after front jobs label hold =
     let core = hold.found in
     let seen : after.seen ≡ core.history = hold.seen ∙ same in
     let counted : jobs ≡ touched_between core.plan (inputs_of core.history) (front_of core.history) front =
-        hold.happened.3
-        ∙ job_count-opened_jobs core.plan (names_leaf (inputs_between (inputs_of core.history) (front_of core.history) (length (journal core.history))))
-        ∙ ap (λ (n : ℕ). touched_between core.plan (inputs_of core.history) (front_of core.history) n) (sym hold.happened.2) in
-    (stayed _ before after hold same,
-     behind_seen _ before after hold _ (ap (λ (s : CoreState). s.round) hold.happened.4),
-     ap (λ (h : List Entry). length (journal h)) seen ∙ sym hold.happened.2,
-     counts core after jobs front hold.happened.2 counted (hold.plan ∙ sym label) seen)
+    hold.happened.3
+    ∙ job_count-opened_jobs core.plan (names_leaf (inputs_between (inputs_of core.history) (front_of core.history) (length (journal core.history))))
+    ∙ ap (λ (n : ℕ). touched_between core.plan (inputs_of core.history) (front_of core.history) n) (sym hold.happened.2) in (
+      stayed _ before after hold same,
+      behind_seen _ before after hold _ (ap (λ (s : CoreState). s.round) hold.happened.4),
+      ap (λ (h : List Entry). length (journal h)) seen ∙ sym hold.happened.2,
+      counts core after jobs front hold.happened.2 counted (hold.plan ∙ sym label) seen,
+    )
 
 -- a party that made nothing before helps
 pub helps_after : (before between after : Known) (reply : Helped) → between.party ≡ before.party → MadeNothing before.party before.seen between.seen → Helps reply between after → Helps reply before after
@@ -208,14 +215,16 @@ pub looks : (before : Known) (seen : List Entry) (book : CoreState) → IsPrefix
 looks before seen book begins same is = subst (λ (h : List Entry). MadeNothing before.party before.seen h) (sym is) (made_nothing before.party before.seen book.history begins same)
 
 pub shows_table : (core : CoreState) (pass : Known) (item front : ℕ) (table : Table) → Reads core item front table → Some core.plan ≡ pass.label → pass.seen ≡ core.history → ShowsTable pass item front table
-shows_table core pass item front table reads label seen =
-    (reads.0 ∙ ap front_of (sym seen),
-     λ plan is. ap (λ (h : List Entry). slice_get (released plan h) item) seen ∙ ap (λ (p : PlanShape). slice_get (released p core.history) item) (sym (some_same core.plan plan (label ∙ is))) ∙ reads.1)
+shows_table core pass item front table reads label seen = (
+  reads.0 ∙ ap front_of (sym seen),
+  λ plan is. ap (λ (h : List Entry). slice_get (released plan h) item) seen ∙ ap (λ (p : PlanShape). slice_get (released p core.history) item) (sym (some_same core.plan plan (label ∙ is))) ∙ reads.1,
+)
 
 pub shows_release : (core : CoreState) (pass : Known) (front : ℕ) (tables : List Table) → ReadsAll core front tables → Some core.plan ≡ pass.label → pass.seen ≡ core.history → ShowsRelease pass front tables
-shows_release core pass front tables reads label seen =
-    (reads.0 ∙ ap front_of (sym seen),
-     λ plan is. reads.1 ∙ ap (λ (p : PlanShape). released p core.history) (some_same core.plan plan (label ∙ is)) ∙ ap (λ (h : List Entry). released plan h) (sym seen))
+shows_release core pass front tables reads label seen = (
+  reads.0 ∙ ap front_of (sym seen),
+  λ plan is. reads.1 ∙ ap (λ (p : PlanShape). released p core.history) (some_same core.plan plan (label ∙ is)) ∙ ap (λ (h : List Entry). released plan h) (sym seen),
+)
 
 -- ---- a job is compiled
 

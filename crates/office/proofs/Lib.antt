@@ -1,4 +1,5 @@
 pub mod Events
 pub mod Seen
 pub mod Holding
-pub mod Opening
+pub mod FirstPasses
+pub mod Gathering

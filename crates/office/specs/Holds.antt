@@ -45,8 +45,8 @@ Grows party found left =
     (left.plan ≡ found.plan) × GrewBy party_of party found.history left.history
     × (length left.history ≤ 2 ^ 40) × IsSound left
 
--- in one hold a pass found a core of its plan, to whose history others alone had added, and one event left the core whose
--- history it has then seen
+-- in one hold a pass found a core of its plan, to whose history others alone had added, and one event left the core
+-- whose history it has then seen
 pub record OneHold (event : CoreState → CoreState → Type 0) (before after : Known) : Type 0 where
   pub found : CoreState
   pub left : CoreState

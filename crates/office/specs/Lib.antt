@@ -3,3 +3,4 @@ pub mod Seen
 pub mod Holds
 pub mod Calls
 pub mod Opening
+pub mod Gathered

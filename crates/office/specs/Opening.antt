@@ -12,15 +12,27 @@ other_parties desks workers = range_with_len 2 (desks - 1) ++ range_with_len 17 
 -- the pass of a party, which has seen nothing
 abbrev pub new_pass : LockName → PlanShape → ℕ → Known
 new_pass lock plan party = record {
-  lock = lock; live = true; label = Some plan; party = party;
-  seen = []; ended = []; gives = false; given = [];
+  lock = lock;
+  live = true;
+  label = Some plan;
+  party = party;
+  seen = [];
+  ended = [];
+  gives = false;
+  given = [];
 }
 
 -- that of the first desk knows which parties were given, the last first
 abbrev pub knowing_pass : LockName → PlanShape → List ℕ → Known
 knowing_pass lock plan others = record {
-  lock = lock; live = true; label = Some plan; party = 1;
-  seen = []; ended = []; gives = true; given = reverse others ++ 1 ∷ [];
+  lock = lock;
+  live = true;
+  label = Some plan;
+  party = 1;
+  seen = [];
+  ended = [];
+  gives = true;
+  given = reverse others ++ 1 ∷ [];
 }
 
 -- the passes in the order of parties
@@ -31,8 +43,14 @@ first_passes lock plan desks workers =
 -- the pass of a party that another pass gives, which has seen what that one has
 abbrev pub given_pass : Known → ℕ → Known
 given_pass pass party = record {
-  lock = pass.lock; live = true; label = pass.label; party = party;
-  seen = pass.seen; ended = []; gives = false; given = [];
+  lock = pass.lock;
+  live = true;
+  label = pass.label;
+  party = party;
+  seen = pass.seen;
+  ended = [];
+  gives = false;
+  given = [];
 }
 
 -- these parties were given, one after another, and their passes stand behind those before

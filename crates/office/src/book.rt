@@ -72,8 +72,9 @@ impl CoreBook {
             result self.old.core self.new.core }
         ensures grows { Grows party self.old.core self.new.core }
     {
-        let reply = self.core.accept(party, input);
-        self.core.stays_sound();
+        let core = &mut self.core;
+        let reply = core.accept(party, input);
+        core.stays_sound();
         reply
     }
 
@@ -83,8 +84,9 @@ impl CoreBook {
             result self.old.core self.new.core }
         ensures stays { Stays self.old.core self.new.core }
     {
-        let reply = self.core.begin();
-        self.core.stays_sound();
+        let core = &mut self.core;
+        let reply = core.begin();
+        core.stays_sound();
         reply
     }
 
@@ -93,8 +95,9 @@ impl CoreBook {
         ensures step { Takes self.old.core result self.new.core }
         ensures stays { Stays self.old.core self.new.core }
     {
-        let reply = self.core.take();
-        self.core.stays_sound();
+        let core = &mut self.core;
+        let reply = core.take();
+        core.stays_sound();
         reply
     }
 
@@ -103,8 +106,9 @@ impl CoreBook {
         ensures step { HandsIn self.old.core made result self.new.core }
         ensures stays { Stays self.old.core self.new.core }
     {
-        let reply = self.core.done(made);
-        self.core.stays_sound();
+        let core = &mut self.core;
+        let reply = core.done(made);
+        core.stays_sound();
         reply
     }
 
@@ -113,8 +117,9 @@ impl CoreBook {
         ensures step { PutsBack self.old.core job result self.new.core }
         ensures stays { Stays self.old.core self.new.core }
     {
-        let reply = self.core.put_back(job);
-        self.core.stays_sound();
+        let core = &mut self.core;
+        let reply = core.put_back(job);
+        core.stays_sound();
         reply
     }
 
@@ -123,8 +128,9 @@ impl CoreBook {
         ensures step { Publishes self.old.core party result self.new.core }
         ensures grows { Grows party self.old.core self.new.core }
     {
-        let reply = self.core.publish(party);
-        self.core.stays_sound();
+        let core = &mut self.core;
+        let reply = core.publish(party);
+        core.stays_sound();
         reply
     }
 

@@ -9,15 +9,15 @@ use crate::office::Office;
 use crate::replies::{Helped, Ran};
 use accounts_core::{Begin, CompileEnd, Done, Job, Publish, Take, compile};
 use desk_lock::Pass;
-use qna_base::{Memory, Steps};
+use qna_base::Steps;
 use qna_edges::{Gate, Place};
 use std::sync::Wait;
 use std::sync::ledger::Ledger;
 
 impl Office {
-    /// Does what is to be done next: it takes a job, compiles it outside the lock and hands it in, or publishes the round
-    /// where no job is ready, or begins one where none is open. Where the job isn't out any more once it is compiled,
-    /// it starts again. The gate is called before the job is compiled.
+    /// Does what is to be done next: it takes a job, compiles it outside the lock and hands it in, or publishes the
+    /// round where no job is ready, or begins one where none is open. Where the job isn't out any more once it is
+    /// compiled, it starts again. The gate is called before the job is compiled.
     pub fn help<G: Gate, L: Ledger, R: Wait>(
         &self,
         rt: &R,
@@ -71,10 +71,10 @@ impl Office {
         match compile(self.alloc, job, steps) {
             CompileEnd::Compiled(made) => {
                 let (seen, reply) = self.hand_in(rt, pass, made);
-                match reply {
-                    Done::Kept => (seen, Ran::Finished),
-                    Done::NotOut(_) => (seen, Ran::NotOut),
-                }
+                let Done::Kept = reply else {
+                    return (seen, Ran::NotOut);
+                };
+                (seen, Ran::Finished)
             }
             CompileEnd::Memory(job) => {
                 let (seen, _) = self.give_back(rt, pass, job);
@@ -104,11 +104,13 @@ impl Office {
         ensures reply { Helps result.1 pass result.0 }
     {
         let (seen, reply) = self.begin(rt, pass);
-        match reply {
-            Ok(Begin::Opened { front, jobs }) => (seen, Helped::Opened { front, jobs }),
-            Ok(Begin::Nothing(front)) => (seen, Helped::Quiet(front)),
-            Ok(Begin::RoundOpen(_)) => (seen, Helped::Idle),
-            Err(Memory) => (seen, Helped::Memory),
+        let Ok(begun) = reply else {
+            return (seen, Helped::Memory);
+        };
+        match begun {
+            Begin::Opened { front, jobs } => (seen, Helped::Opened { front, jobs }),
+            Begin::Nothing(front) => (seen, Helped::Quiet(front)),
+            Begin::RoundOpen(_) => (seen, Helped::Idle),
         }
     }
 }

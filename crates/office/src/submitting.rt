@@ -11,7 +11,7 @@ use crate::office::Office;
 use crate::replies::{Helped, Submitted};
 use accounts_core::Accept;
 use desk_lock::Pass;
-use qna_base::{Memory, Steps};
+use qna_base::Steps;
 use qna_edges::Gate;
 use series_tables::Input;
 use std::sync::Wait;
@@ -36,11 +36,13 @@ impl Office {
         let mut pass = pass;
         for _ in rt.forever() {
             let (seen, reply) = self.offer(rt, pass, input);
-            match reply {
-                Ok(Accept::Number(number)) => return (seen, Submitted::Accepted(number)),
-                Ok(Accept::Full) => return (seen, Submitted::Full),
-                Err(Memory) => return (seen, Submitted::Memory),
-                Ok(Accept::Behind { .. }) => {
+            let Ok(answer) = reply else {
+                return (seen, Submitted::Memory);
+            };
+            match answer {
+                Accept::Number(number) => return (seen, Submitted::Accepted(number)),
+                Accept::Full => return (seen, Submitted::Full),
+                Accept::Behind { .. } => {
                     let (helped, help) = self.help(rt, seen, gate, steps);
                     if help == Helped::Memory {
                         return (helped, Submitted::Memory);
