@@ -11,6 +11,8 @@ mod opening;
 mod reading;
 mod replies;
 mod submitting;
+#[cfg(test)]
+mod tests;
 
 pub use book::CoreBook;
 pub use office::Office;
