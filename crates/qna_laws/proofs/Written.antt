@@ -270,12 +270,12 @@ none_refused years quarters before n plan (sent ∷ sents) fine few =
 lines_unrefused : AreYearsRead → AreQuartersRead → (plan : PlanShape) (sents : List Sent) → AllByRecursion (IsFineSent plan) sents → length sents ≤ 262144 → refusals_after plan 0 (lines_of (sent_lines plan sents)) ≡ []
 unfolding lines_of
 lines_unrefused years quarters plan sents fine few =
-    rw (text_unmarked plan sents, pieces_of plan sents fine, none_left plan sents fine, append-nil) (none_refused years quarters 0 0 plan sents fine few)
+    rw (text_unmarked plan sents, pieces_of plan sents fine, none_left plan sents fine, append-nil) (none_refused years quarters 0 0 plan sents fine (omega (arith, few)))
 
 -- ---- what a line fixes
 
 -- the desk stands in the fifth field
-desk_of : Option (List (List ℕ)) → Option ℤ
+abbrev desk_of : Option (List (List ℕ)) → Option ℤ
 desk_of None = None
 desk_of (Some fields) = number_of (get_or fields 4 [])
 
