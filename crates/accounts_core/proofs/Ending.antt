@@ -1,6 +1,6 @@
 -- A round's jobs come to an end, and the round is published.
-use Rattle.std.proofs.Common.{◌≡◌, ◌∙◌, ap, sym, refl, subst, inl, inr, ℕ, zero, suc, ◌+◌, ◌≤◌, ◌<◌, Bool, true, false, ◌||◌, ◌&&◌, cond, List, [], ◌∷◌, ◌++◌, length, drop, take, get_or, Option, Some, None, arith, append_assoc, append-nil}
-use Rattle.std.specs.Prelude.{All, Err, IsFalse, IsTrue, Ok, OnOk, Result, not, ◌≢◌}
+use Rattle.std.proofs.Common.{◌≡◌, ◌∙◌, ap, sym, refl, subst, inl, inr, ℕ, zero, suc, ◌+◌, ◌≤◌, ◌<◌, Bool, true, false, ◌||◌, ◌&&◌, cond, List, [], ◌∷◌, ◌++◌, length, map, drop, take, get_or, Option, Some, None, arith, append_assoc, append-nil}
+use Rattle.std.specs.Prelude.{All, Err, IsFalse, IsTrue, Ok, OnErr, OnOk, Result, not, ◌≢◌}
 use Rattle.std.specs.List.{list_any}
 use Rattle.std.proofs.lemmas.Bool.{cases_lt}
 use Rattle.std.proofs.lemmas.List.{get_or-drop, get_or_past}
@@ -8,19 +8,19 @@ use Rattle.std.proofs.lemmas.List.Elements.{All-append, All-cons, All-head, All-
 use Rattle.series_tables.specs.Plan.{PlanShape, is_parent}
 use Rattle.series_tables.specs.Tree.{of_children}
 use Rattle.series_tables.specs.declared.input.Input.{Input}
-use Rattle.dirty_plan.specs.Round.{has_unfinished_child, is_job, is_left, is_ready, is_unfinished, is_waiting, state_of}
-use Rattle.dirty_plan.specs.Touched.{is_touched_between, items_of}
+use Rattle.dirty_plan.specs.Round.{first_state, has_unfinished_child, is_job, is_left, is_ready, is_unfinished, is_waiting, opened_jobs, state_of}
+use Rattle.dirty_plan.specs.Touched.{is_touched, is_touched_between, items_of}
 use Rattle.dirty_plan.specs.declared.job.JobState.{JobState}
 use Rattle.dirty_plan.specs.declared.job.JobState.TheVariants.{Clean, Waiting, Out, Done}
-use Rattle.accounts_history.specs.History.{front_of, inputs_of, journal}
+use Rattle.accounts_history.specs.History.{Sent, front_of, inputs_of, journal}
 use Rattle.accounts_history.specs.declared.entry.Entry.{Entry}
 use Rattle.accounts_history.specs.declared.entry.Entry.TheVariants.{Accept, Publish}
-use Rattle.accounts_history.proofs.Histories.{front_of-publish, inputs_of-append, length-inputs_of}
+use Rattle.accounts_history.proofs.Histories.{front_of-publish, journal-publish, length-inputs_of}
 use Rattle.round_works.specs.Rounds.{Round}
-use Rattle.accounts_core.specs.Finishing.{HasOnlyPublished, IsPublicationOf, IsSameRound, NoneLeft, NoneOut, front_ahead, item_steps, jobs_in, jobs_now, next_front, steps_between, steps_left, steps_over, with_jobs, IsFinished, IsRoundEnded, RunsOne, steps_ahead}
+use Rattle.accounts_core.specs.Finishing.{HasOnlyPublished, IsPublicationOf, IsSameRound, NoMoreOut, NoneLeft, NoneOut, front_ahead, item_steps, jobs_in, jobs_now, next_front, steps_between, steps_left, steps_over, with_jobs, IsFinished, IsRoundEnded, RunsOne, steps_ahead}
 use Rattle.accounts_core.specs.Sound.{IsSound}
 use Rattle.accounts_core.specs.State.{CoreState, accepted, next_round, published, with_round}
-use Rattle.accounts_core.specs.Step.{Begins, Publishes}
+use Rattle.accounts_core.specs.Step.{Begins, HasMore, Publishes}
 use Rattle.accounts_core.specs.declared.replies.Begin.{Begin as BeginReply}
 use Rattle.accounts_core.specs.declared.replies.Begin.TheVariants.{RoundOpen, Nothing, Opened}
 use Rattle.accounts_core.specs.declared.replies.Publish.{Publish as PublishReply}
@@ -59,6 +59,18 @@ none_of_last parents jobs none_out none_ready (suc last) item past = elim (cases
 pub none_left : (parents : List (Option ℕ)) (jobs : List JobState) → NoneOut jobs → ((item : ℕ) → item < length jobs → IsFalse (is_ready parents jobs item)) → NoneLeft jobs
 none_left parents jobs none_out none_ready item = none_of_last parents jobs none_out none_ready (length jobs) item (omega arith)
 
+-- where nothing changed, no more jobs are out
+pub fewer_same : (old new : CoreState) → new ≡ old → NoMoreOut (jobs_now old) (jobs_now new)
+fewer_same old new same item was is = was (ap (λ (s : CoreState). state_of (jobs_now s) item) (sym same) ∙ is)
+
+-- where no round is open, no job is out
+closed_from : (round : Option Round) → round ≡ None → NoneOut (jobs_in round)
+closed_from None closed item is = (let never : Clean ≡ Out = is in absurd (cc))
+closed_from (Some r) closed item is = (let no : Some r ≡ None = closed in absurd (cc))
+
+pub closed_none_out : (state : CoreState) → state.round ≡ None → NoneOut (jobs_now state)
+closed_none_out state closed = closed_from state.round closed
+
 -- what stays the same where jobs alone stand elsewhere
 pub record StaysOpen (old new : CoreState) : Type 0 where
   pub plan : new.plan ≡ old.plan
@@ -90,6 +102,44 @@ stays_join old between new first second = record {
   front = second.front ∙ first.front;
   is_open = λ some. second.is_open (first.is_open some);
 }
+
+-- where more was accepted than is published, not all is finished
+pub more_unfinished : (state : CoreState) → HasMore state → ¬ IsFinished state
+more_unfinished state more done = more.1 (sym done.all)
+
+-- where a round was open or is begun, not all was finished
+unfinished_from : (plan : PlanShape) (history : List Entry) (round : Option Round) (new : CoreState) (reply : BeginReply) → Begins (core_of plan history round) reply new → ((front : ℕ) → reply ≢ Nothing front) → ¬ IsFinished (core_of plan history round)
+unfinished_from plan history round new (Nothing front) begins never done = never front refl
+unfinished_from plan history None new (RoundOpen front) begins never done = absurd (begins.0)
+unfinished_from plan history (Some r) new (RoundOpen front) begins never done = (let no : Some r ≡ None = done.closed in absurd (cc))
+unfinished_from plan history round new (Opened front jobs) begins never done = begins.1 (sym done.all)
+
+pub begun_unfinished : (old new : CoreState) (reply : BeginReply) → Begins old reply new → ((front : ℕ) → reply ≢ Nothing front) → ¬ IsFinished old
+begun_unfinished old new reply begins never = unfinished_from old.plan old.history old.round new reply begins never
+
+-- no job of a round that begins is out
+none_opened : (test : ℕ → Bool) (items : List ℕ) (item : ℕ) → state_of (map (λ i. first_state (test i)) items) item ≢ Out
+none_opened test [] item is = (let never : Clean ≡ Out = is in absurd (cc))
+none_opened test (i ∷ items) zero is = by (test i) is
+  where
+    by : (b : Bool) → first_state b ≢ Out
+    by true e = absurd (cc)
+    by false e = absurd (cc)
+none_opened test (i ∷ items) (suc item) is = none_opened test items item is
+
+opened_none_out : (plan : PlanShape) (is_named : ℕ → Bool) → NoneOut (opened_jobs plan is_named)
+unfolding opened_jobs
+opened_none_out plan is_named item = none_opened (is_touched plan is_named) (items_of plan) item
+
+-- beginning hands no job out
+fewer_from : (plan : PlanShape) (history : List Entry) (round : Option Round) (new : CoreState) (reply : BeginReply) → Begins (core_of plan history round) reply new → NoMoreOut (jobs_in round) (jobs_now new)
+fewer_from plan history round new (Nothing front) begins = fewer_same (core_of plan history round) new begins.3
+fewer_from plan history round new (RoundOpen front) begins = fewer_same (core_of plan history round) new begins.1
+fewer_from plan history round new (Opened front jobs) begins = λ item was is.
+    opened_none_out plan _ item (ap (λ (s : CoreState). state_of (jobs_now s) item) (sym begins.4) ∙ is)
+
+pub begun_fewer : (old new : CoreState) (reply : BeginReply) → Begins old reply new → NoMoreOut (jobs_now old) (jobs_now new)
+begun_fewer old new reply begins = fewer_from old.plan old.history old.round new reply begins
 
 -- a round is open once it was begun
 begun_from : (plan : PlanShape) (history : List Entry) (round : Option Round) (new : CoreState) (reply : BeginReply) → Begins (core_of plan history round) reply new → ((front : ℕ) → reply ≢ Nothing front)
@@ -125,6 +175,7 @@ ended_from plan history (Some r) new party (Published front) publishes some none
   ap (λ (s : CoreState). s.round) publishes.2,
   record {
     plan = ap (λ (s : CoreState). s.plan) publishes.2;
+    journal = ap (λ (s : CoreState). journal s.history) publishes.2 ∙ journal-publish history party r.front _;
     added = Publish party r.front _ ∷ [];
     publications = All-cons (IsPublicationOf party) (Publish party r.front _) [] refl (All-nil (IsPublicationOf party));
     history = ap (λ (s : CoreState). s.history) publishes.2;
@@ -165,26 +216,20 @@ steps_as old new front plan history same =
 
 -- nothing was published
 pub only_none : (old new : CoreState) → new.plan ≡ old.plan → new.history ≡ old.history → HasOnlyPublished 0 old new
-only_none old new plan history = record { plan = plan; added = []; publications = All-nil (IsPublicationOf 0); history = history ∙ sym (append-nil old.history) }
+only_none old new plan history = record { plan = plan; journal = ap journal history; added = []; publications = All-nil (IsPublicationOf 0); history = history ∙ sym (append-nil old.history) }
 
 pub only_join : (old between new : CoreState) → HasOnlyPublished 0 old between → HasOnlyPublished 0 between new → HasOnlyPublished 0 old new
 only_join old between new first second = record {
   plan = second.plan ∙ first.plan;
+  journal = second.journal ∙ first.journal;
   added = first.added ++ second.added;
   publications = All-append (IsPublicationOf 0) first.added second.added first.publications second.publications;
   history = second.history ∙ ap (λ (h : List Entry). h ++ second.added) first.history ∙ append_assoc old.history first.added second.added;
 }
 
 -- publications bring no inputs
-no_inputs : (added : List Entry) → All (IsPublicationOf 0) added → inputs_of added ≡ []
-no_inputs [] all = refl
-no_inputs (Accept party input ∷ added) all = absurd (All-head (IsPublicationOf 0) (Accept party input) added all)
-no_inputs (Publish party front jobs ∷ added) all = no_inputs added (All-tail (IsPublicationOf 0) (Publish party front jobs) added all)
-
 pub same_inputs : (old new : CoreState) → HasOnlyPublished 0 old new → inputs_of new.history ≡ inputs_of old.history
-same_inputs old new only =
-    ap (λ (h : List Entry). inputs_of h) only.history ∙ inputs_of-append old.history only.added
-    ∙ ap (λ (inputs : List Input). inputs_of old.history ++ inputs) (no_inputs only.added only.publications) ∙ append-nil (inputs_of old.history)
+same_inputs old new only = ap (map (λ (sent : Sent). sent.input)) only.journal
 
 pub same_accepted : (old new : CoreState) → HasOnlyPublished 0 old new → accepted new ≡ accepted old
 same_accepted old new only = sym (length-inputs_of new.history) ∙ ap (λ (inputs : List Input). length inputs) (same_inputs old new only) ∙ length-inputs_of old.history
@@ -193,6 +238,7 @@ same_accepted old new only = sym (length-inputs_of new.history) ∙ ap (λ (inpu
 pub only_after : (old between new : CoreState) → between.plan ≡ old.plan → between.history ≡ old.history → HasOnlyPublished 0 between new → HasOnlyPublished 0 old new
 only_after old between new plan history only = record {
   plan = only.plan ∙ plan;
+  journal = only.journal ∙ ap journal history;
   added = only.added;
   publications = only.publications;
   history = only.history ∙ ap (λ (h : List Entry). h ++ only.added) history;
@@ -218,6 +264,13 @@ finished old between new first only second = record {
   closed = second.closed;
 }
 
+-- where all was finished, it is after a round too
+pub still_finished : (old between : CoreState) → IsFinished old → HasOnlyPublished 0 old between → IsRoundEnded old between → IsFinished between
+still_finished old between done only ended = record {
+  all = ended.published ∙ next_accepted old done.closed ∙ sym (same_accepted old between only);
+  closed = ended.closed;
+}
+
 -- the steps of two rounds
 pub steps_twice : (old between : CoreState) (before middle after : ℕ) → IsRoundEnded old between → HasOnlyPublished 0 old between → middle ≤ before + steps_between old (published old) (next_front old)
     → after ≤ middle + steps_between between (published between) (next_front between) → after ≤ before + steps_ahead old
@@ -234,3 +287,13 @@ steps_twice old between before middle after first only one two =
 pub on_ok : {T E : Type 0} (P Q : Type 0) (r : Result T E) → (P → Q) → OnOk r P → OnOk r Q
 on_ok P Q (Ok value) follows p = follows p
 on_ok P Q (Err error) follows p = p
+
+-- a fact at a refusal follows from another
+pub on_err : {T E : Type 0} (P Q : Type 0) (r : Result T E) → (P → Q) → OnErr r P → OnErr r Q
+on_err P Q (Ok value) follows p = p
+on_err P Q (Err error) follows p = follows p
+
+-- what holds holds at a refusal
+pub at_err : {T E : Type 0} (P : Type 0) (r : Result T E) → P → OnErr r P
+at_err P (Ok value) p = tt
+at_err P (Err error) p = p

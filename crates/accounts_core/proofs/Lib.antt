@@ -10,3 +10,4 @@ pub mod Reaching
 pub mod Costs
 pub mod Running
 pub mod Ending
+mod Worked

@@ -18,7 +18,7 @@ use Rattle.round_works.specs.declared.work.Compiled.{Compiled}
 use Rattle.round_works.specs.declared.work.Job.{Job}
 use Rattle.round_works.specs.declared.work.Work.{Work}
 use Rattle.period_keys.specs.declared.Year.{Year}
-use Rattle.accounts_core.specs.Finishing.{IsBack, IsCopyOf, IsSameRound, NoneOut, RunsItem, RunsOne, item_steps, jobs_in, jobs_now, next_front, steps_left, with_jobs, with_state_of, work_steps}
+use Rattle.accounts_core.specs.Finishing.{IsBack, IsCopyOf, IsSameRound, NoMoreOut, NoneOut, RunsItem, RunsOne, item_steps, jobs_in, jobs_now, next_front, steps_left, with_jobs, with_state_of, work_steps}
 use Rattle.accounts_core.specs.Sound.{IsSound}
 use Rattle.accounts_core.specs.State.{CoreState, IsOutAt, IsOutNow}
 use Rattle.accounts_core.specs.Step.{HandsIn, PutsBack, Takes}
@@ -164,6 +164,20 @@ twice_from plan history (Some r) item one two = ap (λ (js : List JobState). wit
 -- a job that is handed out and done is done
 pub twice : (old mid new : CoreState) (item : ℕ) (one two : JobState) → mid ≡ with_state_of old item one → new ≡ with_state_of mid item two → new ≡ with_state_of old item two
 twice old mid new item one two first second = second ∙ ap (λ (s : CoreState). with_state_of s item two) first ∙ twice_from old.plan old.history old.round item one two
+
+-- a job that is handed out and comes back is one that waited
+pub back_fewer : (old mid new : CoreState) (job : Job) → Takes old (Handed job) mid → new ≡ with_state_of mid job.node Waiting → NoMoreOut (jobs_now old) (jobs_now new)
+back_fewer old mid new job taken e other was is =
+    elim (cases_eq other job.node) [
+      | inl here ↦ (let never : Waiting ≡ Out = sym (get_or-set_same (jobs_now old) job.node Waiting Clean (within_jobs (jobs_now old) job.node Waiting waits refl)) ∙ sym (ap (λ (js : List JobState). state_of js job.node) jobs) ∙ ap (state_of (jobs_now new)) (sym here) ∙ is in absurd (cc))
+      | inr there ↦ was (sym (get_or-set_other (jobs_now old) job.node other Waiting Clean there) ∙ sym (ap (λ (js : List JobState). state_of js other) jobs) ∙ is)
+    ]
+  where
+    waits : state_of (jobs_now old) job.node ≡ Waiting
+    waits = ready_waits old.plan.parents (jobs_now old) job.node (taken_out old mid job taken).0
+
+    jobs : jobs_now new ≡ slice_set (jobs_now old) job.node Waiting
+    jobs = jobs_with old new job.node Waiting (twice old mid new job.node Out Waiting (taken_out old mid job taken).1 e)
 
 -- one job done leaves so much less
 left_from : (plan : PlanShape) (history : List Entry) (round : Option Round) (item : ℕ) → IsSound (core_of plan history round) → is_left (jobs_in round) item ≡ true

@@ -8,7 +8,7 @@ use Rattle.dirty_plan.specs.Round.{is_left, is_ready, state_of}
 use Rattle.dirty_plan.specs.Touched.{is_touched_between, items_of}
 use Rattle.dirty_plan.specs.declared.job.JobState.{JobState}
 use Rattle.dirty_plan.specs.declared.job.JobState.TheVariants.{Out, Done, Waiting}
-use Rattle.accounts_history.specs.History.{inputs_of}
+use Rattle.accounts_history.specs.History.{inputs_of, journal}
 use Rattle.accounts_history.specs.declared.entry.Entry.{Entry}
 use Rattle.accounts_history.specs.declared.entry.Entry.TheVariants.{Accept, Publish}
 use Rattle.round_works.specs.Rounds.{IsCopyOut, Round}
@@ -21,9 +21,10 @@ abbrev pub IsPublicationOf : ℕ → Entry → Type 0
 IsPublicationOf party (Accept sender input) = ⊥
 IsPublicationOf party (Publish publisher front jobs) = publisher ≡ party
 
--- a core has the same plan, and nothing was added to its history but publications of a party
+-- a core has the same plan and the same journal, and nothing was added to its history but publications of a party
 pub record HasOnlyPublished (party : ℕ) (old new : CoreState) : Type 0 where
   pub plan : new.plan ≡ old.plan
+  pub journal : journal new.history ≡ journal old.history
   pub added : List Entry
   pub publications : All (IsPublicationOf party) added
   pub history : new.history ≡ old.history ++ added
@@ -83,9 +84,12 @@ with_jobs state jobs = with_round state (option_map (λ round. record { front = 
 abbrev pub IsSameRound : CoreState → CoreState → Type 0
 IsSameRound old new = new ≡ with_jobs old (jobs_now new)
 
--- no job is out; no job is left
+-- no job is out; none is out that wasn't; no job is left
 abbrev pub NoneOut : List JobState → Type 0
 NoneOut jobs = (item : ℕ) → state_of jobs item ≢ Out
+
+abbrev pub NoMoreOut : List JobState → List JobState → Type 0
+NoMoreOut old new = (item : ℕ) → state_of old item ≢ Out → state_of new item ≢ Out
 
 abbrev pub NoneLeft : List JobState → Type 0
 NoneLeft jobs = (item : ℕ) → IsFalse (is_left jobs item)
@@ -93,7 +97,7 @@ NoneLeft jobs = (item : ℕ) → IsFalse (is_left jobs item)
 -- a job isn't out any more, and no other is that wasn't
 pub record IsBack (item : ℕ) (old new : List JobState) : Type 0 where
   pub here : state_of new item ≢ Out
-  pub others : (other : ℕ) → state_of old other ≢ Out → state_of new other ≢ Out
+  pub others : NoMoreOut old new
 
 -- a copy of an item's job that is out now, or none where it isn't
 abbrev pub IsCopyOf : CoreState → ℕ → Option Job → Type 0

@@ -1,5 +1,6 @@
 -- Whole runs of the core.
 use Rattle.std.specs.Prelude.{◌≡◌, ℕ, List, [], ◌∷◌}
+use Rattle.series_tables.specs.Fits.{FitsPlan}
 use Rattle.series_tables.specs.declared.input.Input.{Input}
 use Rattle.node_compile.specs.Table.{Table}
 use Rattle.round_works.specs.declared.work.Compiled.{Compiled}
@@ -24,9 +25,10 @@ pub data Event : Type 0 where
   reads : (item front : ℕ) (table : Table) → Event
   reads_all : (front : ℕ) (tables : List Table) → Event
 
--- from one state, a call may give this reply and leave another state
+-- from one state, a call may give this reply and leave another state; an input that is offered fits the plan
 abbrev pub Step : CoreState → Event → CoreState → Type 0
-Step old (accepts party input reply) new = Accepts old party input reply new
+Step old (accepts party input reply) new =
+    FitsPlan old.plan input × Accepts old party input reply new
 Step old (begins reply) new = Begins old reply new
 Step old (takes reply) new = Takes old reply new
 Step old (hands_in made reply) new = HandsIn old made reply new

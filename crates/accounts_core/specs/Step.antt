@@ -34,6 +34,10 @@ HasRoom state = accepted state ≢ most_inputs
 abbrev pub IsNear : CoreState → Type 0
 IsNear state = accepted state ≢ published state + most_ahead
 
+-- no round is open, and more was accepted than is published
+abbrev pub HasMore : CoreState → Type 0
+HasMore state = (state.round ≡ None) × (accepted state ≢ published state)
+
 -- an input of a party is accepted, or the journal is full or too far ahead
 abbrev pub Accepts : CoreState → ℕ → Input → AcceptReply → CoreState → Type 0
 Accepts old party input Full new = (accepted old ≡ most_inputs) × (new ≡ old)

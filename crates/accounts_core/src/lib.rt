@@ -13,3 +13,6 @@ pub use laws::untouched_items_keep_their_tables;
 pub use machine::Core;
 pub use replies::{Accept, Begin, Done, Publish, PutBack, Take};
 pub use round_works::{CompileEnd, Compiled, Job, Work, compile};
+
+#[cfg(test)]
+mod tests;

@@ -6,7 +6,7 @@ ghost use Rattle.accounts_core.specs.State.{accepted as accepted_of, first_core,
 ghost use Rattle.accounts_core.specs.Step.{Accepts, Begins, HandsIn, Publishes, PutsBack, Reads, ReadsAll, Takes};
 ghost use Rattle.accounts_core.specs.Finishing.{IsCopyOf};
 ghost use Rattle.accounts_core.specs.Sound.{IsSound};
-ghost use Rattle.accounts_core.specs.Step.{taken_of};
+ghost use Rattle.accounts_core.specs.Step.{HasMore, HasRoom, IsNear, taken_of};
 ghost use Rattle.node_compile.specs.Release.{tables_in};
 ghost use Rattle.round_works.specs.Tables.{shared_table};
 ghost use Rattle.series_tables.specs.Fits.{FitsPlan};
@@ -108,8 +108,8 @@ impl Core {
         &self.history
     }
 
-    /// Law: the history is lawful, and an open round compiles what was touched between the published front and a later
-    /// one.
+    /// Does nothing, and tells that the history is lawful and that an open round compiles what was touched between the
+    /// published front and a later one.
     pub fn stays_sound(&self)
         ensures { IsSound self.now }
     {
@@ -131,11 +131,12 @@ impl Core {
         }
     }
 
-    /// Accepts an input of a party, unless the journal is full or too far ahead of the published release.
+    /// Accepts an input of a party, unless the journal is full or too far ahead of the published release. Only an input
+    /// that would be accepted can want memory.
     pub fn accept(&mut self, party: u16, input: Input) -> Result<Accept, Memory>
         requires { FitsPlan self.old.plan input }
         ensures step { IfOk result (λ reply. Accepts self.old party input reply self.new) }
-        ensures memory { OnErr result (self.new ≡ self.old) }
+        ensures memory { OnErr result (HasRoom self.old × IsNear self.old × (self.new ≡ self.old)) }
     {
         if self.accepted == MOST_INPUTS {
             return Ok(Accept::Full);
@@ -155,10 +156,10 @@ impl Core {
     }
 
     /// Begins a round up to all that was accepted, with a job for each item that was touched since the published
-    /// release. All memory that the round needs until it is published is taken here.
+    /// release. All memory that the round needs until it is published is taken here, and none where no round begins.
     pub fn begin(&mut self) -> Result<Begin, Memory>
         ensures step { IfOk result (λ reply. Begins self.old reply self.new) }
-        ensures memory { OnErr result (self.new ≡ self.old) }
+        ensures memory { OnErr result (HasMore self.old × (self.new ≡ self.old)) }
     {
         if let Some(round) = &self.round {
             return Ok(Begin::RoundOpen(round.front()));
@@ -185,7 +186,7 @@ impl Core {
         })
     }
 
-    /// Hands out a job that is ready: it waits, and no child of its item has an unfinished job. It takes no memory.
+    /// Hands out a job that is ready: it waits, and no child of its item has an unfinished job. It can't want memory.
     pub fn take(&mut self) -> Take
         ensures { Takes self.old result self.new }
     {
@@ -199,7 +200,7 @@ impl Core {
         }
     }
 
-    /// Keeps what was made of a job that is out. It takes no memory.
+    /// Keeps what was made of a job that is out. It can't want memory.
     pub fn done(&mut self, made: Compiled) -> Done
         ensures { HandsIn self.old made result self.new }
     {
@@ -220,7 +221,7 @@ impl Core {
         }
     }
 
-    /// Takes a job back that is out, to be handed out again. It takes no memory.
+    /// Takes a job back that is out, to be handed out again. It can't want memory.
     pub fn put_back(&mut self, job: Job) -> PutBack
         ensures { PutsBack self.old job result self.new }
     {
@@ -239,7 +240,7 @@ impl Core {
         }
     }
 
-    /// Publishes the release of the round, once all its jobs are done, and closes the round. It takes no memory.
+    /// Publishes the release of the round, once all its jobs are done, and closes the round. It can't want memory.
     pub fn publish(&mut self, party: u16) -> Publish
         ensures { Publishes self.old party result self.new }
     {

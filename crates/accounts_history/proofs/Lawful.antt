@@ -1,5 +1,5 @@
 -- Lawful histories, one entry after another.
-use Rattle.std.proofs.Common.{◌≡◌, ◌∙◌, ap, sym, refl, subst, inl, inr, ◌⊎◌, ℕ, ◌+◌, ◌≤◌, List, [], ◌∷◌, ◌++◌, length, map, arith, append_assoc, append-nil}
+use Rattle.std.proofs.Common.{◌≡◌, ◌∙◌, ap, sym, refl, subst, inl, inr, ◌⊎◌, ℕ, ◌+◌, ◌≤◌, List, [], ◌∷◌, ◌++◌, length, map, arith, append_assoc, append-nil, length-append}
 use Rattle.std.specs.Prelude.{All}
 use Rattle.std.proofs.lemmas.List.Elements.{All-nil, All-push}
 use Rattle.series_tables.specs.Fits.{FitsPlan}
@@ -52,6 +52,7 @@ within_more plan history (Accept party input) may within = record {
   few = omega (arith, length-journal-accept history party input, may.room);
   accepted = omega (arith, length-journal-accept history party input, front_of-accept history party input, within.accepted);
   near = omega (arith, length-journal-accept history party input, front_of-accept history party input, may.near);
+  short = omega (arith, length-append history (Accept party input ∷ []), length-journal-accept history party input, front_of-accept history party input, within.short);
 }
 within_more plan history (Publish party front jobs) may within =
     let same : length (journal (history ++ Publish party front jobs ∷ [])) ≡ length (journal history) = ap (λ (sent : List Sent). length sent) (journal-publish history party front jobs) in
@@ -60,10 +61,11 @@ within_more plan history (Publish party front jobs) may within =
       few = omega (arith, same, within.few);
       accepted = omega (arith, same, front_of-publish history party front jobs, may.accepted);
       near = omega (arith, same, front_of-publish history party front jobs, may.later, within.near);
+      short = omega (arith, length-append history (Publish party front jobs ∷ []), same, front_of-publish history party front jobs, may.later, within.short);
     }
 
 within_none : (plan : PlanShape) → IsWithinBounds plan []
-within_none plan = record { fit = All-nil (FitsPlan plan); few = omega arith; accepted = omega arith; near = omega arith }
+within_none plan = record { fit = All-nil (FitsPlan plan); few = omega arith; accepted = omega arith; near = omega arith; short = omega arith }
 
 -- a history within the bounds goes on to one within the bounds
 within_on : (plan : PlanShape) (before after : List Entry) → IsWithinBounds plan before → IsLawful plan (before ++ after) → IsWithinBounds plan (before ++ after)

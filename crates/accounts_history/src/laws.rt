@@ -24,8 +24,8 @@ pub fn beginnings_are_lawful()
         IsLawful plan (before ++ after) → IsLawful plan before }
 {}
 
-/// Law: in a lawful history each input fits the plan, there are at most 262,144 of them, and the front is at most their
-/// number and at most 1,024 below it. So it is in each of its beginnings.
+/// Law: in a lawful history each input fits the plan, there are at most 262,144 of them, the front is at most their
+/// number and at most 1,024 below it, and there are at most as many entries as the two come to.
 pub fn lawful_histories_are_within_bounds()
     ensures { (plan : PlanShape) (history : List Entry) →
         IsLawful plan history → IsWithinBounds plan history }

@@ -24,7 +24,7 @@ use Rattle.series_tables.specs.declared.input.Input.{Input}
 use Rattle.series_tables.specs.declared.input.Kind.{Kind}
 use Rattle.series_tables.specs.declared.input.Kind.TheVariants.{Indicator, Benchmark, Price}
 use Rattle.series_tables.proofs.Distinct.{name_at, name_found}
-use Rattle.input_rules.specs.Accepted.{judged_lines, taken, accepted_of, accepted}
+use Rattle.input_rules.specs.Accepted.{judged_lines, taken, accepted_of, accepted, refusals, refusals_of, refusals_after}
 use Rattle.input_rules.specs.Judgement.{is_zero_indicator, is_in_range, leaf_with_name, judgement_of_leaf, judgement}
 use Rattle.input_rules.specs.Lines.{judged_line, judged_meaning}
 use Rattle.input_rules.specs.Requests.{Asked, kind_of, year_place, quarter_place, period_of, value_bound, value_of, is_desk, input_with, input_of_kind, request_of, request_or_form, meaning_of_fields}
@@ -259,6 +259,55 @@ lines_taken : AreYearsRead → AreQuartersRead → (plan : PlanShape) (sents : L
 unfolding lines_of
 lines_taken years quarters plan sents fine = rw (text_unmarked plan sents, pieces_of plan sents fine, none_left plan sents fine, append-nil) (all_taken years quarters 0 plan sents fine)
 
+-- none of them is refused
+none_refused : AreYearsRead → AreQuartersRead → (before n : ℕ) (plan : PlanShape) (sents : List Sent) → AllByRecursion (IsFineSent plan) sents → before + length sents ≤ 262144 → refusals_after plan before (numbered n (map (body_of plan) sents)) ≡ []
+unfolding numbered refusals_after
+none_refused years quarters before n plan [] fine few = refl
+none_refused years quarters before n plan (sent ∷ sents) fine few =
+    let room : nat_lt before 262144 ≡ true = lt-ltb before 262144 (omega (arith, few)) in
+    rw (body_line (next_number n) plan sent fine.0, line_judged years quarters (next_number n) plan sent fine.0, room) (none_refused years quarters (before + 1) (next_number n) plan sents fine.1 (omega (arith, few)))
+
+lines_unrefused : AreYearsRead → AreQuartersRead → (plan : PlanShape) (sents : List Sent) → AllByRecursion (IsFineSent plan) sents → length sents ≤ 262144 → refusals_after plan 0 (lines_of (sent_lines plan sents)) ≡ []
+unfolding lines_of
+lines_unrefused years quarters plan sents fine few =
+    rw (text_unmarked plan sents, pieces_of plan sents fine, none_left plan sents fine, append-nil) (none_refused years quarters 0 0 plan sents fine (omega (arith, few)))
+
+-- ---- what a line fixes
+
+-- the desk stands in the fifth field
+abbrev desk_of : Option (List (List ℕ)) → Option ℤ
+desk_of None = None
+desk_of (Some fields) = number_of (get_or fields 4 [])
+
+desk_written : (plan : PlanShape) (sent : Sent) → IsFineSent plan sent → desk_of (record_of (body_of plan sent)) ≡ Some (pos sent.party)
+desk_written plan sent fine = ap desk_of (body_record plan sent fine) ∙ number_is (pos sent.party) (omega (arith, fine.last))
+
+line_fixed : AreYearsRead → AreQuartersRead → (plan : PlanShape) (one other : Sent) → IsFineSent plan one → IsFineSent plan other → body_of plan one ≡ body_of plan other → one ≡ other
+line_fixed years quarters plan one other fine also same = by one other party input
+  where
+    party : one.party ≡ other.party
+    party =
+        let desks : Some (pos one.party) ≡ Some (pos other.party) = sym (desk_written plan one fine) ∙ ap (λ (body : List ℕ). desk_of (record_of body)) same ∙ desk_written plan other also in
+        cc
+
+    input : one.input ≡ other.input
+    input =
+        let judged : Taken one.input ≡ Taken other.input =
+        sym (line_judged years quarters 1 plan one fine) ∙ ap (λ (body : List ℕ). judged_line plan (record { number = 1; long = false; text = body })) same ∙ line_judged years quarters 1 plan other also in
+        cc
+
+    by : (one other : Sent) → one.party ≡ other.party → one.input ≡ other.input → one ≡ other
+    by one other p i = ap (λ (q : ℕ). record { party = q; input = one.input }) p ∙ ap (λ (j : Input). record { party = other.party; input = j }) i
+
+lines_fixed : AreYearsRead → AreQuartersRead → (plan : PlanShape) (one other : List Sent) → AllByRecursion (IsFineSent plan) one → AllByRecursion (IsFineSent plan) other → map (body_of plan) one ≡ map (body_of plan) other → one ≡ other
+lines_fixed years quarters plan [] [] fine also same = refl
+lines_fixed years quarters plan [] (o ∷ other) fine also same = absurd (cc)
+lines_fixed years quarters plan (s ∷ one) [] fine also same = absurd (cc)
+lines_fixed years quarters plan (s ∷ one) (o ∷ other) fine also same =
+    let head : body_of plan s ≡ body_of plan o = cc in
+    let tail : map (body_of plan) one ≡ map (body_of plan) other = cc in
+    ap (λ (t : Sent). t ∷ one) (line_fixed years quarters plan s o fine.0 also.0 head) ∙ ap (λ (ts : List Sent). o ∷ ts) (lines_fixed years quarters plan one other fine.1 also.1 tail)
+
 -- ---- the inputs of a journal
 
 -- an input that fits, of a desk
@@ -295,3 +344,20 @@ journal_read years quarters plan history kept fit few desks =
     let sents : List Sent = journal history in
     ap (take 262144) (lines_taken years quarters plan sents (all_fine plan sents kept fit desks))
     ∙ take_all 262144 (inputs_of history) (omega (arith, few, length-map sents (λ sent. sent.input)))
+
+-- no line of it is refused
+pub journal_unrefused : AreYearsRead → AreQuartersRead → (plan : PlanShape) (history : List Entry) → IsPlan plan → All (FitsPlan plan) (inputs_of history) → length (journal history) ≤ 262144 → All (λ sent. (1 ≤ sent.party) × (sent.party ≤ 16)) (journal history)
+    → refusals plan (journal_text plan history) ≡ []
+unfolding refusals refusals_of journal_text
+journal_unrefused years quarters plan history kept fit few desks = lines_unrefused years quarters plan (journal history) (all_fine plan (journal history) kept fit desks) few
+
+-- it fixes the journal
+pub journal_fixed : AreYearsRead → AreQuartersRead → (plan : PlanShape) (one other : List Entry) → IsPlan plan → All (FitsPlan plan) (inputs_of one) → All (FitsPlan plan) (inputs_of other)
+    → All (λ sent. (1 ≤ sent.party) × (sent.party ≤ 16)) (journal one) → All (λ sent. (1 ≤ sent.party) × (sent.party ≤ 16)) (journal other)
+    → journal_text plan one ≡ journal_text plan other → journal one ≡ journal other
+unfolding journal_text
+journal_fixed years quarters plan one other kept fit also desks more same =
+    let fine : AllByRecursion (IsFineSent plan) (journal one) = all_fine plan (journal one) kept fit desks in
+    let fine_too : AllByRecursion (IsFineSent plan) (journal other) = all_fine plan (journal other) kept also more in
+    lines_fixed years quarters plan (journal one) (journal other) fine fine_too
+    (sym (pieces_of plan (journal one) fine) ∙ ap (ended_from []) same ∙ pieces_of plan (journal other) fine_too)

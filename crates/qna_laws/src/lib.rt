@@ -11,5 +11,5 @@ pub use certificates::{
     accepted_certificates_are_found_true, compiled_certificate_is_true,
     printed_certificate_is_read, printed_certificate_is_true,
 };
-pub use journals::written_journals_are_read;
+pub use journals::{written_journals_are_read, written_journals_fix_what_was_accepted};
 pub use releases::releases_are_certified;

@@ -1,7 +1,7 @@
 use Rattle.std.proofs.Common.{◌≡◌, ◌∙◌, sym, arith}
-use Rattle.accounts_core.specs.Finishing.{next_front}
+use Rattle.accounts_core.specs.Finishing.{IsFinished, NoMoreOut, jobs_now, next_front}
 use Rattle.accounts_core.specs.Run.{begins, publishes}
-use Rattle.accounts_core.proofs.Ending.{begun_open, ended, left_touched, only_after, only_none, stays_join, stays_open, steps_as}
+use Rattle.accounts_core.proofs.Ending.{at_err, begun_fewer, begun_open, begun_unfinished, ended, fewer_same, left_touched, more_unfinished, only_after, only_none, stays_join, stays_open, steps_as}
 use Rattle.accounts_core.proofs.Reaching.{reach_join, reach_one}
 use Rattle.accounts_core.proofs.finishing.finish_round.Goals as goal
 
@@ -88,3 +88,26 @@ returns-clause-steps g c =
     let touched = left_touched c.put_all_back.new.core c.stays_sound.ensures (back.is_open begun.0) in
     let same = steps_as c.args.core.now c.put_all_back.new.core (next_front c.args.core.now) (back.plan ∙ begun.1) (back.history ∙ begun.2) (back.front ∙ begun.3) in
     omega (arith, c.run_jobs.ensures.steps, touched, same)
+
+pub returns-in_err-begin-clause-wanting : goal.returns-in_err-begin-clause-wanting
+returns-in_err-begin-clause-wanting g c = at_err (¬ IsFinished c.args.core.now) c.from_residual.result (more_unfinished c.args.core.now c.in_err-begin.ensures.memory.0)
+
+pub returns-in_err-begin-clause-back : goal.returns-in_err-begin-clause-back
+returns-in_err-begin-clause-back g c =
+    at_err (NoMoreOut (jobs_now c.args.core.now) (jobs_now c.begin.new.self)) c.from_residual.result (fewer_same c.args.core.now c.begin.new.self c.in_err-begin.ensures.memory.1)
+
+pub returns-in_err-put_all_back-clause-wanting : goal.returns-in_err-put_all_back-clause-wanting
+returns-in_err-put_all_back-clause-wanting g c =
+    at_err (¬ IsFinished c.args.core.now) c.from_residual-in_err-put_all_back.result (begun_unfinished c.args.core.now c.begin.new.self c.in_ok-begin.field-0 c.in_ok-begin.ensures.step c.in_default.not-Nothing)
+
+pub returns-in_err-put_all_back-clause-back : goal.returns-in_err-put_all_back-clause-back
+returns-in_err-put_all_back-clause-back g c = at_err (NoMoreOut (jobs_now c.args.core.now) (jobs_now c.put_all_back.new.core)) c.from_residual-in_err-put_all_back.result (λ item was.
+    c.in_err-put_all_back.ensures.fewer item (begun_fewer c.args.core.now c.begin.new.self c.in_ok-begin.field-0 c.in_ok-begin.ensures.step item was))
+
+pub returns-in_err-run_jobs-clause-wanting : goal.returns-in_err-run_jobs-clause-wanting
+returns-in_err-run_jobs-clause-wanting g c =
+    at_err (¬ IsFinished c.args.core.now) c.from_residual-in_err-run_jobs.result (begun_unfinished c.args.core.now c.begin.new.self c.in_ok-begin.field-0 c.in_ok-begin.ensures.step c.in_default.not-Nothing)
+
+pub returns-in_err-run_jobs-clause-back : goal.returns-in_err-run_jobs-clause-back
+returns-in_err-run_jobs-clause-back g c =
+    at_err (NoMoreOut (jobs_now c.args.core.now) (jobs_now c.run_jobs.new.core)) c.from_residual-in_err-run_jobs.result (λ item was. c.in_err-run_jobs.ensures.back item)

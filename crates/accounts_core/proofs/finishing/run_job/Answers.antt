@@ -1,8 +1,9 @@
-use Rattle.std.proofs.Common.{◌≡◌, subst, sym}
+use Rattle.std.proofs.Common.{◌≡◌, ◌∙◌, ap, subst, sym}
 use Rattle.dirty_plan.specs.declared.job.JobState.TheVariants.{Done, Waiting}
 use Rattle.round_works.specs.Jobs.{job_in}
 use Rattle.round_works.specs.declared.work.Job.{Job}
 use Rattle.accounts_core.specs.Run.{hands_in, puts_back}
+use Rattle.accounts_core.specs.Finishing.{with_state_of}
 use Rattle.accounts_core.specs.State.{IsOutNow}
 use Rattle.accounts_core.proofs.Reaching.{reach_one}
 use Rattle.accounts_core.proofs.Running.{handed_in, made_of, put_back_from, same_with}
@@ -27,3 +28,9 @@ pub returns-in-Memory-clause-same : goal.returns-in-Memory-clause-same
 returns-in-Memory-clause-same g c =
     let out : IsOutNow c.args.core.now (job_in c.in-Memory.job) = subst (λ (j : Job). IsOutNow c.args.core.now (job_in j)) (sym c.in-Memory.ensures.end) c.requires in
     same_with c.args.core.now c.put_back.new.self _ (put_back_from c.args.core.now c.put_back.new.self c.in-Memory.job c.put_back.result out c.put_back.ensures)
+
+pub returns-in-Memory-clause-back : goal.returns-in-Memory-clause-back
+returns-in-Memory-clause-back g c =
+    let out : IsOutNow c.args.core.now (job_in c.in-Memory.job) = subst (λ (j : Job). IsOutNow c.args.core.now (job_in j)) (sym c.in-Memory.ensures.end) c.requires in
+    put_back_from c.args.core.now c.put_back.new.self c.in-Memory.job c.put_back.result out c.put_back.ensures
+    ∙ ap (λ (j : Job). with_state_of c.args.core.now j.node Waiting) c.in-Memory.ensures.end

@@ -1,5 +1,6 @@
 use Rattle.std.proofs.Common.{◌≡◌, ◌<◌, ap, sym, subst, ℕ, Bool, true, false, arith}
-use Rattle.accounts_core.proofs.Ending.{ended_next}
+use Rattle.accounts_core.specs.Finishing.{NoneOut, jobs_now}
+use Rattle.accounts_core.proofs.Ending.{at_err, ended_next}
 use Rattle.accounts_core.proofs.Reaching.{reach_join, reach_none}
 use Rattle.accounts_core.proofs.Running.{fewer_next, none_out_next, same_join, same_none, steps_next, to_run}
 use Rattle.accounts_core.proofs.finishing.run_jobs.Goals as goal
@@ -49,3 +50,6 @@ returns-clause-done g c = c.loop-more.invariant.ended c.loop-more-test.false
 
 pub returns-clause-steps : goal.returns-clause-steps
 returns-clause-steps g c = omega (arith, c.loop-more.invariant.steps)
+
+pub returns-in_err-more-clause-back : goal.returns-in_err-more-clause-back
+returns-in_err-more-clause-back g c = at_err (NoneOut (jobs_now c.run_next.new.core)) c.from_residual.result (λ item. c.in_err-more.ensures.back item (c.loop-more.invariant.none_out item))
