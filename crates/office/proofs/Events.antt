@@ -18,7 +18,7 @@ use Rattle.round_works.specs.declared.work.Compiled.{Compiled}
 use Rattle.round_works.specs.declared.work.Job.{Job}
 use Rattle.accounts_core.specs.Sound.{IsSound}
 use Rattle.accounts_core.specs.State.{CoreState, IsOutAt, inputs_to, with_job_at}
-use Rattle.accounts_core.specs.Step.{Accepts, Begins, HandsIn, IsLeastLeft, Publishes, PutsBack, Takes, with_published}
+use Rattle.accounts_core.specs.Step.{Accepts, Begins, HandsIn, HasMore, HasRoom, IsNear, IsLeastLeft, Publishes, PutsBack, Takes, with_published}
 use Rattle.accounts_core.specs.declared.replies.Accept.{Accept as AcceptReply}
 use Rattle.accounts_core.specs.declared.replies.Accept.TheVariants.{Full, Behind, Number}
 use Rattle.accounts_core.specs.declared.replies.Begin.{Begin as BeginReply}
@@ -33,31 +33,9 @@ use Rattle.accounts_core.specs.declared.replies.Publish.{Publish as PublishReply
 use Rattle.accounts_core.specs.declared.replies.Publish.TheVariants.{NoRound, Waiting as WaitingFor, Published}
 use Rattle.office.specs.Holds.{Answers, Grows, Stays}
 
--- ---- a lawful history is short: each of its entries raises the length of the journal or the front
-
-short_more : (plan : PlanShape) (history : List Entry) (entry : Entry) → MayFollow plan history entry → length history ≤ length (journal history) + front_of history
-    → length (history ++ entry ∷ []) ≤ length (journal (history ++ entry ∷ [])) + front_of (history ++ entry ∷ [])
-short_more plan history (Accept party input) may short =
-    let longer : length (history ++ Accept party input ∷ []) ≡ length history + 1 = length-append history (Accept party input ∷ []) in
-    omega (arith, longer, length-journal-accept history party input, front_of-accept history party input, short)
-short_more plan history (Publish party front jobs) may short =
-    let longer : length (history ++ Publish party front jobs ∷ []) ≡ length history + 1 = length-append history (Publish party front jobs ∷ []) in
-    let same : length (journal (history ++ Publish party front jobs ∷ [])) ≡ length (journal history) = ap length (journal-publish history party front jobs) in
-    omega (arith, longer, same, front_of-publish history party front jobs, may.later, short)
-
-short_on : (plan : PlanShape) (before after : List Entry) → length before ≤ length (journal before) + front_of before → IsLawful plan (before ++ after)
-    → length (before ++ after) ≤ length (journal (before ++ after)) + front_of (before ++ after)
-short_on plan before [] short lawful = subst (λ (h : List Entry). length h ≤ length (journal h) + front_of h) (sym (append-nil before)) short
-short_on plan before (entry ∷ after) short lawful =
-    let same : (before ++ entry ∷ []) ++ after ≡ before ++ entry ∷ after = append_assoc before (entry ∷ []) after in
-    subst (λ (h : List Entry). length h ≤ length (journal h) + front_of h) same
-    (short_on plan (before ++ entry ∷ []) after (short_more plan before entry (lawful before after entry refl) short) (subst (IsLawful plan) (sym same) lawful))
-
+-- a lawful history is short
 pub lawful_short : (plan : PlanShape) (history : List Entry) → IsLawful plan history → length history ≤ 2 ^ 40
-lawful_short plan history lawful =
-    let bounds : IsWithinBounds plan history = within_bounds plan history lawful in
-    let short : length history ≤ length (journal history) + front_of history = short_on plan [] history (omega arith) lawful in
-    omega (arith, short, bounds.few, bounds.accepted)
+lawful_short plan history lawful = let bounds : IsWithinBounds plan history = within_bounds plan history lawful in omega (arith, bounds.short, bounds.few, bounds.accepted)
 
 -- ---- events
 
@@ -86,10 +64,16 @@ same_stays found left same sound = (ap (λ (s : CoreState). s.plan) same, ap (λ
 pub stays_grows : (party : ℕ) (found left : CoreState) → Stays found left → Grows party found left
 stays_grows party found left stays = (stays.0, inl stays.1, lawful_short left.plan left.history stays.2.lawful, stays.2)
 
-pub answered : {A : Type 0} (step : A → CoreState → CoreState → Type 0) (reply : Result A Memory) (found left : CoreState)
-    → IfOk reply (λ r. step r found left) → OnErr reply (left ≡ found) → Answers step reply found left
-answered step (Ok reply) found left did same = did
-answered step (Err error) found left did same = same
+-- the answers of two calls that may want memory, and then change nothing
+pub accept_answered : (party : ℕ) (input : Input) (reply : Result AcceptReply Memory) (found left : CoreState)
+    → IfOk reply (λ r. Accepts found party input r left) → OnErr reply (HasRoom found × IsNear found × (left ≡ found)) → Answers (λ r f l. Accepts f party input r l) reply found left
+accept_answered party input (Ok reply) found left did wanted = did
+accept_answered party input (Err error) found left did wanted = wanted.2
+
+pub begin_answered : (reply : Result BeginReply Memory) (found left : CoreState)
+    → IfOk reply (λ r. Begins found r left) → OnErr reply (HasMore found × (left ≡ found)) → Answers (λ r f l. Begins f r l) reply found left
+begin_answered (Ok reply) found left did wanted = did
+begin_answered (Err error) found left did wanted = wanted.1
 
 pub accepts_grows : (party : ℕ) (input : Input) (found left : CoreState) (reply : Result AcceptReply Memory)
     → Answers (λ r f l. Accepts f party input r l) reply found left → IsSound left → Grows party found left
