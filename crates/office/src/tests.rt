@@ -1,11 +1,11 @@
 // Offices that several parties share.
 
-ghost use Rattle.std.specs.Prelude.{◌≡◌, ◌<◌, ◌≤◌, ◌∷◌, [], ℕ, All, IfOk, Some, length};
+ghost use Rattle.std.specs.Prelude.{◌≡◌, ◌<◌, ◌≤◌, ◌∷◌, [], All, IfOk, length, true};
 ghost use Rattle.std.specs.Option.{ForSome};
 ghost use Rattle.std.specs.Thread.{IsSync};
 ghost use Rattle.accounts_history.specs.History.{journal};
 ghost use Rattle.desk_lock.specs.Passes.{IsPassOf, IsSameButSeen};
-ghost use Rattle.office.specs.Gathered.{AreAll, IsGathered, IsReady};
+ghost use Rattle.office.specs.Gathered.{AreAll, AreReady, IsGathered, IsReady};
 ghost use Rattle.office.specs.Opening.{knowing_pass, new_pass};
 ghost use Rattle.series_tables.specs.Fits.{FitsPlan};
 
@@ -360,7 +360,8 @@ fn add_inputs(
         let Ok(period) = u16::try_from(period) else {
             return Err(Fail::new("a period"));
         };
-        inputs.push(input_of(plan, name, kind, period, *value)?)?;
+        let input = input_of(plan, name, kind, period, *value)?;
+        inputs.push(input)?;
     }
     Ok(())
 }
@@ -479,8 +480,14 @@ fn help_and_read<R: Threads + Wait + Sync>(
 {
     let (first, second) = join(
         rt,
-        || help(rt, office, worker, gate).1,
-        || read_beside(rt, office, reader, gate),
+        || -> Helped
+            requires { IsPassOf office.now worker }
+        { help(rt, office, worker, gate).1 },
+        || -> (Pass<CoreBook>, Result<u64, Memory>)
+            requires { IsPassOf office.now reader
+                × ForSome reader.label (λ plan. 0 < length plan.names) }
+            ensures { IsSameButSeen reader result.0 }
+        { read_beside(rt, office, reader, gate) },
     );
     Beside {
         helped: first,
@@ -506,8 +513,14 @@ fn help_twice_and_read<R: Threads + Wait + Sync>(
     let (one, two) = workers;
     join(
         rt,
-        || help(rt, office, one, gate).1,
-        || help_and_read(rt, office, gate, two, reader),
+        || -> Helped
+            requires { IsPassOf office.now one }
+        { help(rt, office, one, gate).1 },
+        || -> Beside
+            requires { IsPassOf office.now two × IsPassOf office.now reader
+                × ForSome reader.label (λ plan. 0 < length plan.names) × IsSync R.row }
+            ensures { IsSameButSeen reader result.reader }
+        { help_and_read(rt, office, gate, two, reader) },
     )
 }
 
@@ -588,7 +601,8 @@ fn crew<R: Threads + Wait + Sync>(
     inputs: &[Input],
 ) -> (Pass<CoreBook>, bool)
     requires first { IsReady office.now inputs.now first }
-    requires others { All (IsReady office.now inputs.now) others.items }
+    requires others { AreReady office.now inputs.now others.items }
+    requires knows { first.gives ≡ true }
     ensures { IsGathered first others.items result.0 }
 {
     let mut others = others;
@@ -599,10 +613,14 @@ fn crew<R: Threads + Wait + Sync>(
         rt,
         || -> (Pass<CoreBook>, bool)
             requires { IsReady office.now inputs.now first
-                × All (IsReady office.now inputs.now) others.items × IsSync R.row }
+                × AreReady office.now inputs.now others.items
+                × (first.gives ≡ true) × IsSync R.row }
             ensures { IsGathered first others.items result.0 }
         { crew(rt, office, first, others, inputs) },
-        || work(rt, office, last, inputs),
+        || -> (Pass<CoreBook>, bool)
+            requires { IsReady office.now inputs.now last }
+            ensures { IsSameButSeen last result.0 }
+        { work(rt, office, last, inputs) },
     );
     (office.join(rest.0, one.0), rest.1 && one.1)
 }
