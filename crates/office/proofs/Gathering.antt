@@ -1,15 +1,14 @@
 -- The passes of an office that end in one again.
 use Rattle.std.proofs.Common.{◌≡◌, ◌∙◌, ap, sym, refl, subst, inl, inr, ◌⊎◌, ⊎_elim, ℕ, ◌==◌, Bool, true, false, cond, ◌||◌, List, [], ◌∷◌, ◌++◌, map, reverse, arith, Option, Some, unwrap_or}
 use Rattle.std.specs.Prelude.{All, remove, slice_index_or}
-use Rattle.std.specs.Option.{option_to_list}
 use Rattle.std.proofs.lemmas.List.{reverse-append}
-use Rattle.std.proofs.lemmas.List.Elements.{All-cons, All-map, All-pop, All-weaker}
+use Rattle.std.proofs.lemmas.List.Elements.{All-cons, All-pop}
 use Rattle.series_tables.specs.Fits.{FitsPlan}
 use Rattle.series_tables.specs.declared.input.Input.{Input}
 use Rattle.series_tables.specs.Plan.{PlanShape}
 use Rattle.accounts_history.specs.History.{party_of}
 use Rattle.accounts_history.specs.declared.entry.Entry.{Entry}
-use Rattle.desk_lock.specs.Passes.{Account, IsJoined, IsLastPass, IsSameButSeen, LockName, account, is_in, is_named, own}
+use Rattle.desk_lock.specs.Passes.{Account, IsJoined, IsLastPass, IsSameButSeen, LockName, account, is_in, is_named}
 use Rattle.desk_lock.proofs.Gathering.{all_named_from}
 use Rattle.desk_lock.proofs.Lists.{named-append, or_either, or_left, or_right}
 use Rattle.office.specs.Gathered.{AreAll, AreReady, IsGathered, IsReady, is_among}

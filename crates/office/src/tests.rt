@@ -59,10 +59,7 @@ fn input_of(plan: &Plan, name: &[u8], kind: Kind, period: u16, value: i64) -> Re
 }
 
 /// An office of two desks, with their passes.
-fn two_desks(
-    alloc: Global,
-    plan: Plan,
-) -> Result<(Office, Pass<CoreBook>, Pass<CoreBook>), Memory>
+fn two_desks(alloc: Global, plan: Plan) -> Result<(Office, Pass<CoreBook>, Pass<CoreBook>), Memory>
     ensures first { IfOk result (λ r. r.1 ≡ knowing_pass r.0 plan (2 ∷ [])) }
     ensures second { IfOk result (λ r. r.2 ≡ new_pass r.0 plan 2) }
 {
@@ -383,8 +380,16 @@ fn inputs_of_three_years(alloc: Global, plan: &Plan) -> Result<Vec<Input>, Fail>
     let services = b"SERV".as_slice();
     let indicators = [200, 200, 200, 200, 210, 210, 210, 210, 250, 250, 250, 250];
     add_inputs(&mut inputs, plan, services, Kind::Indicator, &indicators)?;
-    add_inputs(&mut inputs, plan, services, Kind::Benchmark, &[800, 840, 1000])?;
-    let prices = [base, base, base, base, low, low, low, low, base, base, base, base];
+    add_inputs(
+        &mut inputs,
+        plan,
+        services,
+        Kind::Benchmark,
+        &[800, 840, 1000],
+    )?;
+    let prices = [
+        base, base, base, base, low, low, low, low, base, base, base, base,
+    ];
     add_inputs(&mut inputs, plan, services, Kind::Price, &prices)?;
     Ok(inputs)
 }
