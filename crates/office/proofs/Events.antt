@@ -1,10 +1,10 @@
 -- What an event of the core leaves of the plan and the history.
-use Rattle.std.proofs.Common.{◌≡◌, ◌∙◌, ap, sym, refl, subst, inl, inr, ℕ, ◌+◌, ◌<◌, ◌≤◌, ◌^◌, List, [], ◌∷◌, ◌++◌, length, arith, append_assoc, append-nil, length-append, Option, Some, None}
+use Rattle.std.proofs.Common.{◌≡◌, ap, sym, refl, subst, inl, inr, ℕ, ◌+◌, ◌≤◌, ◌^◌, List, [], ◌∷◌, ◌++◌, length, arith, append_assoc, append-nil, length-append, Option, Some, None}
 use Rattle.std.specs.Prelude.{Result, Ok, Err, IfOk, OnErr, IsSomeAnd, IsTrue}
 use Rattle.qna_base.specs.declared.Memory.{Memory}
 use Rattle.series_tables.specs.Plan.{PlanShape}
 use Rattle.series_tables.specs.declared.input.Input.{Input}
-use Rattle.accounts_history.specs.History.{IsLawful, MayFollow, front_of, journal, party_of}
+use Rattle.accounts_history.specs.History.{IsLawful, MayFollow, front_of, journal}
 use Rattle.accounts_history.specs.Laws.{IsWithinBounds}
 use Rattle.accounts_history.specs.declared.entry.Entry.{Entry}
 use Rattle.accounts_history.specs.declared.entry.Entry.TheVariants.{Accept, Publish}

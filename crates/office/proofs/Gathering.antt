@@ -1,13 +1,17 @@
 -- The passes of an office that end in one again.
-use Rattle.std.proofs.Common.{◌≡◌, ◌∙◌, ap, sym, refl, subst, inl, inr, ◌⊎◌, ⊎_elim, ℕ, ◌==◌, Bool, true, false, cond, ◌||◌, List, [], ◌∷◌, ◌++◌, map, reverse, eq-eqb, eqb-true}
+use Rattle.std.proofs.Common.{◌≡◌, ◌∙◌, ap, sym, refl, subst, inl, inr, ◌⊎◌, ⊎_elim, ℕ, ◌==◌, Bool, true, false, cond, ◌||◌, List, [], ◌∷◌, ◌++◌, map, reverse, arith, Option, Some, unwrap_or}
+use Rattle.std.specs.Prelude.{All, remove, slice_index_or}
 use Rattle.std.proofs.lemmas.List.{reverse-append}
+use Rattle.std.proofs.lemmas.List.Elements.{All-cons, All-pop}
+use Rattle.series_tables.specs.Fits.{FitsPlan}
+use Rattle.series_tables.specs.declared.input.Input.{Input}
 use Rattle.series_tables.specs.Plan.{PlanShape}
 use Rattle.accounts_history.specs.History.{party_of}
 use Rattle.accounts_history.specs.declared.entry.Entry.{Entry}
-use Rattle.desk_lock.specs.Passes.{Account, IsJoined, IsLastPass, IsSameButSeen, LockName, account, is_in, is_named, own}
+use Rattle.desk_lock.specs.Passes.{Account, IsJoined, IsLastPass, IsSameButSeen, LockName, account, is_in, is_named}
 use Rattle.desk_lock.proofs.Gathering.{all_named_from}
 use Rattle.desk_lock.proofs.Lists.{named-append, or_either, or_left, or_right}
-use Rattle.office.specs.Gathered.{AreAll, IsGathered, is_among}
+use Rattle.office.specs.Gathered.{AreAll, AreReady, IsGathered, IsReady, is_among}
 use Rattle.office.specs.Holds.{Known}
 use Rattle.office.specs.Opening.{first_passes, knowing_pass, new_pass, other_parties}
 
@@ -111,3 +115,50 @@ all_first lock plan parties = (refl, λ party there. by party (or_either (is_in 
     by : (party : ℕ) → (is_in party (reverse parties) ≡ true) ⊎ ((is_in party (reverse parties) ≡ false) × (is_in party (1 ∷ []) ≡ true)) → is_among party (knowing_pass lock plan parties ∷ map (new_pass lock plan) parties) ≡ true
     by party (inl other) = or_right ((1 == party) || false) (is_among party (map (new_pass lock plan) parties)) (among_new lock plan party parties (in_turned party parties other))
     by party (inr first) = or_left ((1 == party) || false) (is_among party (map (new_pass lock plan) parties)) first.1
+
+-- a pass as it is
+same_itself : (pass : Known) → IsSameButSeen pass pass
+same_itself pass = (refl, refl, refl, refl, refl, refl, refl)
+
+-- two passes that are all are one last pass once they are joined
+pub joined_last : (first second after : Known) → first.live ≡ true → AreAll first (second ∷ []) → IsJoined party_of first second after → IsLastPass party_of after
+joined_last first second after live all joined =
+    gathered_last first after (second ∷ []) all (gathers first first second second after [] all.0 (gathered_none first first live (same_itself first)) (same_itself second) joined)
+
+-- an open pass of a plan that all the inputs fit
+pub ready_with : (lock : LockName) (plan : PlanShape) (inputs : List Input) (pass : Known) → All (FitsPlan plan) inputs → pass.lock ≡ lock → pass.live ≡ true → pass.label ≡ Some plan → IsReady lock inputs pass
+ready_with lock plan inputs pass fit of_lock live label =
+    ((of_lock, live), λ other is. subst (λ (p : PlanShape). All (FitsPlan p) inputs) (ap (λ (o : Option PlanShape). unwrap_or o plan) (sym label ∙ is)) fit)
+
+-- the pass that was given first, of a plan that all the inputs fit
+pub knowing_ready : (lock : LockName) (plan : PlanShape) (parties : List ℕ) (inputs : List Input) (pass : Known) → All (FitsPlan plan) inputs → pass ≡ knowing_pass lock plan parties → IsReady lock inputs pass
+knowing_ready lock plan parties inputs pass fit is = ready_with lock plan inputs pass fit (ap (λ (k : Known). k.lock) is) (ap (λ (k : Known). k.live) is) (ap (λ (k : Known). k.label) is)
+
+new_ready : (lock : LockName) (plan : PlanShape) (inputs : List Input) (parties : List ℕ) → All (FitsPlan plan) inputs → All (IsReady lock inputs) (map (new_pass lock plan) parties)
+new_ready lock plan inputs [] fit = λ k d below. absurd (omega (arith, below))
+new_ready lock plan inputs (party ∷ parties) fit =
+    All-cons (IsReady lock inputs) (new_pass lock plan party) (map (new_pass lock plan) parties) (ready_with lock plan inputs (new_pass lock plan party) fit refl refl refl) (new_ready lock plan inputs parties fit)
+
+-- the passes with which an office opens, the first one apart
+pub opened_apart : (lock : LockName) (plan : PlanShape) (desks workers : ℕ) (inputs : List Input) (first : Known) (passes rest : List Known) → All (FitsPlan plan) inputs → passes ≡ first_passes lock plan desks workers → first ≡ slice_index_or passes 0 first
+    → rest ≡ remove passes 0 → IsReady lock inputs first × AreReady lock inputs rest × AreAll first rest
+opened_apart lock plan desks workers inputs first passes rest fit are head tail = (
+  knowing_ready lock plan parties inputs first fit first_is,
+  record { each = subst (λ (ks : List Known). All (IsReady lock inputs) ks) (sym rest_is) (new_ready lock plan inputs parties fit) },
+  subst (λ (ks : List Known). AreAll first ks) (sym rest_is) (subst (λ (k : Known). AreAll k (map (new_pass lock plan) parties)) (sym first_is) (all_first lock plan parties)),
+)
+  where
+    parties : List ℕ
+    parties = other_parties desks workers
+
+    first_is : first ≡ knowing_pass lock plan parties
+    first_is = head ∙ ap (λ (ks : List Known). slice_index_or ks 0 first) are
+
+    rest_is : rest ≡ map (new_pass lock plan) parties
+    rest_is = tail ∙ ap (λ (ks : List Known). remove ks 0) are
+
+-- the passes that are left once the last one is taken off
+pub popped_ready : (lock : LockName) (inputs : List Input) (old new : List Known) (last : Known) → AreReady lock inputs old → old ≡ new ++ last ∷ [] → AreReady lock inputs new × IsReady lock inputs last
+popped_ready lock inputs old new last ready are =
+    let both = All-pop (IsReady lock inputs) old new (Some last) are ready.each in
+    (record { each = both.0 }, both.1)

@@ -1,5 +1,5 @@
 -- One hold, and what the answer to its event says of what is seen.
-use Rattle.std.proofs.Common.{◌≡◌, ◌≢◌, ◌∙◌, ap, sym, refl, subst, ℕ, ◌+◌, ◌<◌, ◌≤◌, List, [], ◌∷◌, ◌++◌, length, take, arith, slice_get, IfOk, IsSomeAnd, Option, Some, None, Result, Ok, Err, unwrap_or}
+use Rattle.std.proofs.Common.{◌≡◌, ◌∙◌, ap, sym, subst, ℕ, List, [], ◌∷◌, ◌++◌, length, arith, slice_get, IfOk, Option, Some, Result, Ok, Err, unwrap_or}
 use mathlib.Core.List.{IsPrefix}
 use Rattle.qna_base.specs.declared.Memory.{Memory}
 use Rattle.series_tables.specs.Plan.{PlanShape}
@@ -19,20 +19,18 @@ use Rattle.round_works.specs.declared.work.Compiled.{Compiled}
 use Rattle.round_works.specs.declared.work.Job.{Job}
 use Rattle.accounts_core.specs.Sound.{IsSound, IsSoundRound}
 use Rattle.accounts_core.specs.State.{CoreState}
-use Rattle.accounts_core.specs.Step.{Accepts, Begins, HandsIn, IsLeastLeft, Publishes, PutsBack, Reads, ReadsAll, Takes}
+use Rattle.accounts_core.specs.Step.{Accepts, Begins, IsLeastLeft, Publishes, Reads, ReadsAll, Takes}
 use Rattle.accounts_core.specs.declared.replies.Accept.{Accept as AcceptReply}
 use Rattle.accounts_core.specs.declared.replies.Accept.TheVariants.{Full, Behind, Number}
 use Rattle.accounts_core.specs.declared.replies.Begin.{Begin as BeginReply}
 use Rattle.accounts_core.specs.declared.replies.Begin.TheVariants.{RoundOpen, Nothing, Opened}
 use Rattle.accounts_core.specs.declared.replies.Take.{Take as TakeReply}
 use Rattle.accounts_core.specs.declared.replies.Done.TheVariants.{Kept as KeptMade}
-use Rattle.accounts_core.specs.declared.replies.PutBack.{PutBack as PutBackReply}
-use Rattle.accounts_core.specs.declared.replies.Publish.{Publish as PublishReply}
 use Rattle.accounts_core.specs.declared.replies.Publish.TheVariants.{NoRound, Waiting as WaitingFor, Published}
-use Rattle.desk_lock.specs.Passes.{IsSameButSeen, entries_by, own}
+use Rattle.desk_lock.specs.Passes.{entries_by, own}
 use Rattle.office.specs.Calls.{CountsTouched, Helps, ShowsRelease, ShowsTable}
-use Rattle.office.specs.Holds.{Answers, Known, Looks, OneHold, Runs}
-use Rattle.office.specs.Seen.{IsBehind, IsWholeAt, MadeNothing, PublishedOne, SentNothing, SentOne, released}
+use Rattle.office.specs.Holds.{Answers, Known, OneHold, Runs}
+use Rattle.office.specs.Seen.{IsBehind, IsWholeAt, MadeNothing, SentNothing, SentOne, released}
 use Rattle.office.specs.declared.replies.Helped.{Helped}
 use Rattle.office.specs.declared.replies.Helped.TheVariants as helped
 use Rattle.office.specs.declared.replies.Ran.TheVariants as ran

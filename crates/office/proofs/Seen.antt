@@ -12,7 +12,7 @@ use Rattle.desk_lock.specs.Passes.{entries_by}
 use Rattle.office.specs.Seen.{MadeNothing, PublishedOne, SentNothing, SentOne, sent_by}
 
 -- who made no entry sent nothing
-nothing_sent : (party : ℕ) (entries : List Entry) → entries_by party_of party entries ≡ [] → sent_by party entries ≡ []
+pub nothing_sent : (party : ℕ) (entries : List Entry) → entries_by party_of party entries ≡ [] → sent_by party entries ≡ []
 nothing_sent party [] none = refl
 nothing_sent party (Accept sender input ∷ entries) none = by_sender (sender == party) none (nothing_sent party entries)
   where
@@ -44,7 +44,7 @@ made_then party one two three first second = (
   filter-append (λ (e : Entry). party_of e == party) first.0 second.0 ∙ (ap (λ (w : List Entry). w ++ entries_by party_of party second.0) first.2 ∙ second.2),
 )
 
-sent-append : (party : ℕ) (xs ys : List Entry) → sent_by party (xs ++ ys) ≡ sent_by party xs ++ sent_by party ys
+pub sent-append : (party : ℕ) (xs ys : List Entry) → sent_by party (xs ++ ys) ≡ sent_by party xs ++ sent_by party ys
 sent-append party xs ys = ap (filter (λ (s : Sent). s.party == party)) (filter_map-append sent_in xs ys) ∙ filter-append (λ (s : Sent). s.party == party) (journal xs) (journal ys)
 
 pub sent_then : (party : ℕ) (one two three : List Entry) → SentNothing party one two → SentNothing party two three → SentNothing party one three

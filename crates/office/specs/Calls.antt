@@ -1,5 +1,5 @@
 -- What each call of the office answers, between what its pass knew before and knows after. It is this product's own.
-use Rattle.std.specs.Prelude.{◌≡◌, ℕ, List, length, slice_get, Option, Some}
+use Rattle.std.specs.Prelude.{◌≡◌, ℕ, List, length, slice_get, Some}
 use Rattle.std.specs.Option.{ForSome}
 use Rattle.series_tables.specs.declared.input.Input.{Input}
 use Rattle.node_compile.specs.Table.{Table}

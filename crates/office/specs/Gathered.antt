@@ -27,3 +27,7 @@ IsGathered first others after =
 -- a pass with which these inputs may be sent
 abbrev pub IsReady : LockName → List Input → Known → Type 0
 IsReady lock inputs pass = IsPassOf lock pass × ForSome pass.label (λ plan. All (FitsPlan plan) inputs)
+
+-- passes with which these inputs may be sent
+pub record AreReady (lock : LockName) (inputs : List Input) (passes : List Known) : Type 0 where
+  pub each : All (IsReady lock inputs) passes

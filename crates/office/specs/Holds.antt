@@ -1,5 +1,5 @@
 -- One hold of the lock is one event of the core. It is this product's own.
-use Rattle.std.specs.Prelude.{◌≡◌, ℕ, ◌≤◌, ◌^◌, length, Option, Some, Result, Ok, Err}
+use Rattle.std.specs.Prelude.{◌≡◌, ℕ, ◌≤◌, ◌^◌, length, Some, Result, Ok, Err}
 use Rattle.qna_base.specs.declared.Memory.{Memory}
 use Rattle.series_tables.specs.Plan.{PlanShape}
 use Rattle.accounts_history.specs.History.{IsLawful, party_of}

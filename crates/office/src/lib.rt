@@ -11,6 +11,9 @@ mod opening;
 mod reading;
 mod replies;
 mod submitting;
+#[cfg(test)]
+mod tests;
+
 pub use book::CoreBook;
 pub use office::Office;
 pub use replies::{Helped, Submitted};

@@ -1,4 +1,4 @@
-use Rattle.std.proofs.Common.{◌≡◌, ◌∙◌, ◌-◌, ap, subst, List, [], ◌∷◌}
+use Rattle.std.proofs.Common.{◌≡◌, ◌∙◌, ◌-◌, ap, subst, List, ◌∷◌}
 use Rattle.std.specs.List.{range_with_len}
 use Rattle.accounts_core.specs.State.{CoreState}
 use Rattle.desk_lock.specs.Passes.{first_pass}

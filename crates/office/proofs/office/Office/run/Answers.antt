@@ -4,7 +4,6 @@ use Rattle.round_works.specs.declared.compiling.CompileEnd.{CompileEnd}
 use Rattle.round_works.specs.declared.work.Job.{Job}
 use Rattle.accounts_core.specs.Step.{HandsIn, PutsBack}
 use Rattle.accounts_core.specs.declared.replies.Done.{Done}
-use Rattle.accounts_core.specs.declared.replies.Done.TheVariants.{Kept}
 use Rattle.office.specs.Holds.{OneHold}
 use Rattle.office.proofs.Holding.{as_event, made_from}
 use Rattle.office.proofs.office.Office.run.Goals as goal
