@@ -112,7 +112,7 @@ ran_finished before after job node hold =
     (stayed _ before after hold stays.1, behind_seen _ before after hold _ (ap (λ (s : CoreState). s.round) there.2.1))
 
 pub ran_not_out : (before after : Known) (job : Job) → Runs job ran.NotOut before after → MadeNothing before.party before.seen after.seen
-ran_not_out before after job hold = stayed _ before after hold (ap (λ (s : CoreState). s.history) hold.happened)
+ran_not_out before after job hold = stayed _ before after hold (ap (λ (s : CoreState). s.history) hold.happened.1)
 
 pub ran_wanting : (before after : Known) (job : Job) → Runs job ran.Wanting before after → MadeNothing before.party before.seen after.seen
 ran_wanting before after job hold = stayed _ before after hold (puts_back_stays hold.found hold.left job hold.happened.0 hold.happened.1 hold.sound).1

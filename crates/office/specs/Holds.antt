@@ -8,7 +8,7 @@ use Rattle.round_works.specs.Jobs.{job_in, job_made}
 use Rattle.round_works.specs.declared.work.Compiled.{Compiled}
 use Rattle.round_works.specs.declared.work.Job.{Job}
 use Rattle.accounts_core.specs.Sound.{IsSound}
-use Rattle.accounts_core.specs.State.{CoreState}
+use Rattle.accounts_core.specs.State.{CoreState, IsOutNow}
 use Rattle.accounts_core.specs.Step.{HandsIn, PutsBack}
 use Rattle.accounts_core.specs.declared.replies.Done.TheVariants.{Kept}
 use Rattle.accounts_core.specs.declared.replies.PutBack.{PutBack}
@@ -31,10 +31,6 @@ abbrev pub Answers : {A : Type 0} → (A → CoreState → CoreState → Type 0)
 Answers step (Ok reply) found left = step reply found left
 Answers step (Err error) found left = left ≡ found
 
--- a call that changes nothing
-abbrev pub Looks : CoreState → CoreState → Type 0
-Looks found left = left ≡ found
-
 -- an event leaves the plan and the history as they were
 abbrev pub Stays : CoreState → CoreState → Type 0
 Stays found left = (left.plan ≡ found.plan) × (left.history ≡ found.history) × IsSound left
@@ -56,10 +52,10 @@ pub record OneHold (event : CoreState → CoreState → Type 0) (before after : 
   pub seen : after.seen ≡ left.history
   pub happened : event found left
 
--- a job was run: what is made of it was kept, or it isn't out, or memory was wanted and it came back
+-- a job was run: what is made of it was kept, or it isn't out any more, or memory was wanted and it came back
 abbrev pub Runs : Job → Ran → Known → Known → Type 0
 Runs job Finished before after =
     OneHold (λ found left. (made : Compiled) × (job_made made ≡ job_in job) × HandsIn found made Kept left) before after
-Runs job NotOut before after = OneHold Looks before after
+Runs job NotOut before after = OneHold (λ found left. ¬ IsOutNow found (job_in job) × (left ≡ found)) before after
 Runs job Wanting before after =
     OneHold (λ found left. (reply : PutBack) × PutsBack found job reply left) before after

@@ -22,7 +22,7 @@ pub enum Helped {
     Opened { front: u64, jobs: u16 },
     /// Nothing: every accepted input was published, up to this front.
     Quiet(u64),
-    /// Nothing: a round is open, and others have its jobs.
+    /// Nothing: there was no job to take when the party asked for one, and a round was open after that.
     Idle,
     /// Memory was wanted. A job that was taken for this call was put back.
     Memory,

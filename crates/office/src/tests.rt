@@ -253,6 +253,22 @@ fn front_read<R: Wait>(
     }
 }
 
+/// The front of the published release, and how many tables it has.
+fn whole_read<R: Wait>(
+    rt: &R,
+    office: &Office,
+    pass: Pass<CoreBook>,
+) -> (Pass<CoreBook>, Option<(u64, usize)>)
+    requires { IsPassOf office.now pass }
+    ensures { IsSameButSeen pass result.0 }
+{
+    let (pass, shown) = office.read_all(rt, pass);
+    match shown {
+        Ok(release) => (pass, Some((release.front, release.nodes.len()))),
+        Err(Memory) => (pass, None),
+    }
+}
+
 #[test]
 fn two_desks_take_turns(rt: HostRuntime) -> Result<(), Fail> {
     let plan = plan_of(rt.alloc())?;
@@ -270,6 +286,8 @@ fn two_desks_take_turns(rt: HostRuntime) -> Result<(), Fail> {
     let (mut second, helped) = helps_as(&rt, &office, second, ROUND);
     let published = office.history_now(&mut second);
     assert!(&rt; helped && published == 2);
+    let (second, whole) = whole_read(&rt, &office, second);
+    assert_eq!(&rt; whole, Some((1, 3)));
     let (first, synced) = sync(&rt, &office, first, number);
     assert_eq!(&rt; synced, Ok(1));
     let core = closed(office, first, second);
@@ -283,24 +301,33 @@ fn two_desks_take_turns(rt: HostRuntime) -> Result<(), Fail> {
     Ok(())
 }
 
-/// Takes a job and puts it back. Gives its item, or none where no job is ready or it can't be put back.
-fn take_and_return<R: Wait>(
+/// Takes FOOD's job for a party, asks another for help, and puts the job back. Gives what the other is answered, or none
+/// where FOOD's job isn't ready or can't be put back.
+fn holds_a_job_while_helped<R: Wait>(
     rt: &R,
     office: &Office,
-    pass: Pass<CoreBook>,
-) -> (Pass<CoreBook>, Option<u16>)
-    requires { IsPassOf office.now pass }
+    holder: Pass<CoreBook>,
+    helper: Pass<CoreBook>,
+) -> (Pass<CoreBook>, Option<Helped>)
+    requires holder { IsPassOf office.now holder }
+    requires helper { IsPassOf office.now helper }
+    ensures { IsSameButSeen helper result.0 }
 {
-    let (pass, reply) = office.take(rt, pass);
+    let (holder, reply) = office.take(rt, holder);
     let Take::Job(job) = reply else {
-        return (pass, None);
+        return (helper, None);
     };
-    let node = job.node;
-    let (pass, reply) = office.give_back(rt, pass, job);
+    let is_food = job.node == 1;
+    let (helper, helped) = help(rt, office, helper, &OpenGate);
+    let (_, reply) = office.give_back(rt, holder, job);
     let PutBack::Kept = reply else {
-        return (pass, None);
+        return (helper, None);
     };
-    (pass, Some(node))
+    if is_food {
+        (helper, Some(helped))
+    } else {
+        (helper, None)
+    }
 }
 
 /// What the second desk is answered once FOOD's job came back from the first.
@@ -318,8 +345,8 @@ fn a_round_goes_on_where_a_job_came_back(rt: HostRuntime) -> Result<(), Fail> {
     let (first, number) = submit(&rt, &office, first, input);
     let (first, opened) = help(&rt, &office, first, &OpenGate);
     assert!(&rt; number == Ok(1) && opened == Helped::Opened { front: 1, jobs: 2 });
-    let (_, returned) = take_and_return(&rt, &office, first);
-    assert_eq!(&rt; returned, Some(1));
+    let (second, idle) = holds_a_job_while_helped(&rt, &office, first, second);
+    assert_eq!(&rt; idle, Some(Helped::Idle));
     let (second, helped) = helps_as(&rt, &office, second, REST_OF_ROUND);
     let (_, front) = front_read(&rt, &office, second);
     assert!(rt; helped && front == Ok(1));
@@ -406,9 +433,10 @@ struct PairGate {
 }
 
 impl Gate for PairGate {
-    fn at(&self, _party: u16, place: Place) {
-        if let Place::BeforeJob { .. } = place {
-            if self.jobs.fetch_add(1, Ordering::SeqCst) == 0 {
+    fn at(&self, party: u16, place: Place) {
+        if let Place::BeforeJob { front, node } = place {
+            let is_due = (party == 17 || party == 18) && front == 54 && (node == 1 || node == 2);
+            if is_due && self.jobs.fetch_add(1, Ordering::SeqCst) == 0 {
                 self.hold(2, 1);
             }
         }
@@ -561,7 +589,7 @@ fn shows_three_years<R: Wait>(rt: &R, office: &Office, pass: Pass<CoreBook>) -> 
 const TOTAL_OF_ROUND: &'static [Helped] = &[Helped::Compiled(0), Helped::Published(54)];
 
 #[test]
-fn two_parties_compile_at_once_while_a_third_reads(rt: HostRuntime) -> Result<(), Fail> {
+fn two_parties_come_to_jobs_at_once_while_a_third_reads(rt: HostRuntime) -> Result<(), Fail> {
     let plan = plan_of(rt.alloc())?;
     let inputs = inputs_of_three_years(rt.alloc(), &plan)?;
     let (office, desk, one, two) = three_parties(rt.alloc(), plan)?;
@@ -691,5 +719,59 @@ fn sixteen_desks_send_each_input_once_and_in_order(rt: HostRuntime) -> Result<()
     for party in 1..17 {
         assert!(&rt; stand_in_order(core.history(), party), "party {party}");
     }
+    Ok(())
+}
+
+/// Sends one input so many times. Gives the number of the last one, or 0 where one of them isn't accepted.
+fn send_often<R: Wait>(
+    rt: &R,
+    office: &Office,
+    pass: Pass<CoreBook>,
+    input: Input,
+    times: u32,
+) -> (Pass<CoreBook>, u64)
+    requires office { IsPassOf office.now pass }
+    requires fits { ForSome pass.label (λ plan. FitsPlan plan input) }
+    ensures { IsSameButSeen pass result.0 }
+{
+    let mut pass = pass;
+    let mut last = 0;
+    for _ in 0..times {
+        let (seen, answer) = submit(rt, office, pass, input);
+        let Ok(number) = answer else {
+            return (seen, 0);
+        };
+        last = number;
+        pass = seen;
+    }
+    (pass, last)
+}
+
+#[test]
+fn a_desk_alone_helps_until_the_journal_is_full(rt: HostRuntime) -> Result<(), Fail> {
+    let plan = plan_of(rt.alloc())?;
+    let input = input_of(&plan, b"FOOD", Kind::Indicator, 0, 100)?;
+    let (office, first, second) = two_desks(rt.alloc(), plan)?;
+    let (first, last) = send_often(&rt, &office, first, input, 262144);
+    let (first, refused) = submit(&rt, &office, first, input);
+    assert!(&rt; last == 262144 && refused == Err(Submitted::Full));
+    let core = closed(office, first, second);
+    assert!(rt; core.accepted() == 262144 && core.published() == 261120);
+    Ok(())
+}
+
+#[test]
+fn open_desks_are_counted_down(rt: HostRuntime) -> Result<(), Fail> {
+    let plan = plan_of(rt.alloc())?;
+    let (office, _, _) = two_desks(rt.alloc(), plan)?;
+    let two = office.open_desks();
+    office.desk_ended();
+    let one = office.open_desks();
+    office.desk_ended();
+    office.desk_ended();
+    assert_eq!(&rt;
+        (two, one, office.open_desks()),
+        (2, 1, 18446744073709551615)
+    );
     Ok(())
 }

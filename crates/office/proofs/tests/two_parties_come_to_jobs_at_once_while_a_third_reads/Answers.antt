@@ -3,7 +3,7 @@ use Rattle.std.specs.Prelude.{All}
 use Rattle.series_tables.specs.Fits.{FitsPlan}
 use Rattle.series_tables.specs.declared.input.Input.{Input}
 use Rattle.office.proofs.Gathering.{knowing_ready}
-use Rattle.office.proofs.tests.two_parties_compile_at_once_while_a_third_reads.Goals as goal
+use Rattle.office.proofs.tests.two_parties_come_to_jobs_at_once_while_a_third_reads.Goals as goal
 
 pub send_all-desk-requires : goal.send_all-desk-requires
 send_all-desk-requires g c =
