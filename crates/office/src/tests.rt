@@ -301,8 +301,8 @@ fn two_desks_take_turns(rt: HostRuntime) -> Result<(), Fail> {
     Ok(())
 }
 
-/// Takes FOOD's job for a party, asks another for help, and puts the job back. Gives what the other is answered, or none
-/// where FOOD's job isn't ready or can't be put back.
+/// Takes FOOD's job for a party, asks another for help, and puts the job back. Gives what the other is answered, or
+/// none where FOOD's job isn't ready or can't be put back.
 fn holds_a_job_while_helped<R: Wait>(
     rt: &R,
     office: &Office,
