@@ -1,0 +1,6 @@
+pub mod Callers
+pub mod Desks
+pub mod Digits
+pub mod Forms
+pub mod Plain
+pub mod TextWalk

@@ -1,0 +1,5 @@
+pub mod BatchWords
+pub mod Command
+pub mod LiveWords
+pub mod Views
+pub mod Words
