@@ -7,7 +7,7 @@ use Rattle.input_rules.specs.Accepted.{accepted}
 use Rattle.qna_parts.specs.Intake.{refusals_text}
 use Rattle.qna_laws.specs.Releases.{ReleasesAreCertified}
 use Rattle.qna_laws.proofs.Certified.{releases_certified}
-use Rattle.qna_cli.specs.Release.{release_of}
+use Rattle.compile_workers.specs.Release.{release_of}
 use Rattle.qna_cli.specs.Batch.{BatchesRelease}
 
 at_file : (P : List ℕ → Type 0) (file : Option (List ℕ)) (text : List ℕ) → file ≡ Some text → IfSome file P → P text

@@ -2,3 +2,4 @@ pub mod Batches
 pub mod Branches
 pub mod CheckEnds
 pub mod Journal
+pub mod Wanting

@@ -9,7 +9,7 @@ use Rattle.input_rules.specs.Accepted.{accepted}
 use Rattle.qna_parts.specs.Intake.{refusals_text}
 use Rattle.qna_parts.specs.Command.{IsCommandEnd, CommandsComplete}
 use Rattle.qna_laws.specs.Releases.{IsCertified}
-use Rattle.qna_cli.specs.Release.{release_of}
+use Rattle.compile_workers.specs.Release.{release_of}
 
 -- `batch` with this plan, input and output took the cabinet and the report from the old to the new, and ended with this
 -- status: it is the command that makes the release

@@ -1,5 +1,4 @@
 pub mod Batch
 pub mod Check
 pub mod CheckEnd
-pub mod Command
-pub mod Release
+pub mod Forms

@@ -5,15 +5,16 @@ ghost use Rattle.std.specs.Fmt.{signed_decimal};
 ghost use Rattle.qna_edges.specs.Count.{Rose};
 ghost use Rattle.qna_edges.specs.Paper.{grown, BreaksOff, Writes};
 ghost use Rattle.qna_parts.specs.StatusLine.{named_line, pair_line};
-ghost use Rattle.qna_cli.specs.Command.{words_in, is_check, OnCheck};
+ghost use Rattle.command_words.specs.Command.{words_in, is_check, OnCheck};
 ghost use Rattle.cert_read.specs.Found.{found, IsFound, CertifiesItsGap};
 ghost use Rattle.qna_cli.specs.Check.{verdict_text};
 ghost use Rattle.qna_cli.specs.CheckEnd.{ends_at_yes, ends_at_verdict, IsCheckEnd, ChecksComplete};
 
-use crate::command::is_file_name;
 use cert_read::{CertFault, read_cert};
+use command_words::{check_words, plain_words};
 use dual_cert::{Verdict, check as check_document};
 use itoa::Buffer;
+use qna_base::Memory;
 use qna_edges::{Cabinet, Sink, Status};
 use qna_parts::{read_file, tell, tell_pair, tell_unread, tell_usage, tell_word, write_status};
 use std::alloc::Global;
@@ -122,6 +123,7 @@ fn check<C: Cabinet, K: Sink>(alloc: Global, name: &str, cabinet: &mut C, report
 /// Carries out the command `check CERT`: reads the certificate, at most 2^20 bytes, and reports the verdict on it.
 /// `Done` is the answer exactly where the verdict is yes and its line was written, `CheckNo` where the certificate was
 /// read to its end and the verdict isn't yes.
+#[tactic(auto, using(command_words::proofs::Callers::on_check, crate::proofs::Wanting::check_wanting))]
 pub fn run_check<C: Cabinet, K: Sink>(
     alloc: Global,
     words: &[&str],
@@ -129,25 +131,26 @@ pub fn run_check<C: Cabinet, K: Sink>(
     report: &mut K,
 ) -> Status
     ensures usage { result ≡ Status.Usage → is_check (words_in words.now) ≡ false }
-    ensures form { is_check (words_in words.now) ≡ false → result ≡ Status.Usage }
-    ensures untouched { result ≡ Status.Usage → cabinet.new ≡ cabinet.old }
+    ensures form { is_check (words_in words.now) ≡ false →
+        (result ≡ Status.Usage) ⊎ (result ≡ Status.Memory) }
+    ensures untouched { is_check (words_in words.now) ≡ false → cabinet.new ≡ cabinet.old }
+    ensures quiet { is_check (words_in words.now) ≡ false → result ≡ Status.Memory →
+        report.new ≡ report.old }
     ensures told { result ≡ Status.Usage →
         Writes (K.paper report.old) (K.paper report.new) (codes "usage\n") }
     ensures ends { OnCheck (words_in words.now) (λ name.
         IsCheckEnd (C.shelves cabinet.old) (C.shelves cabinet.new)
         (K.paper report.old) (K.paper report.new) name result) }
 {
-    match words {
-        [word, name] => {
-            if *word != "check" {
-                return tell_usage(report);
-            }
-            if !is_file_name(name) {
-                return tell_usage(report);
-            }
-            check(alloc, name, cabinet, report)
-        }
-        _ => tell_usage(report),
+    let plain = match plain_words(alloc, words) {
+        Ok(Some(plain)) => plain,
+        Ok(None) => return tell_usage(report),
+        Err(Memory) => return Status::Memory,
+    };
+    match check_words(alloc, &plain) {
+        Ok(Some(name)) => check(alloc, name, cabinet, report),
+        Ok(None) => tell_usage(report),
+        Err(Memory) => Status::Memory,
     }
 }
 

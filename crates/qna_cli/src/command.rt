@@ -1,72 +1,54 @@
 //! The program's words, and the command that they name.
 
-ghost use Rattle.std.specs.Prelude.{◌≡◌, ◌≢◌, List, ℕ, true, false, codes};
+ghost use Rattle.std.specs.Prelude.{◌≡◌, ◌⊎◌, List, ℕ, false, codes};
+ghost use Rattle.command_words.specs.Command.{words_in, is_batch, OnBatch, OnCheck};
+ghost use Rattle.command_words.specs.Words.{begins_by};
 ghost use Rattle.qna_edges.specs.Paper.{Writes};
-ghost use Rattle.qna_cli.specs.Command.{words_in, is_batch, OnBatch, is_check, OnCheck, begins_check};
-ghost use Rattle.qna_cli.specs.Command.{is_file_name as is_file_name_of, are_file_names as are_file_names_of};
 ghost use Rattle.qna_cli.specs.Batch.{IsBatchEnd};
 ghost use Rattle.qna_cli.specs.CheckEnd.{IsCheckEnd};
+ghost use Rattle.qna_cli.specs.Forms.{HasNoForm};
 ghost use Rattle.qna_laws.specs.Releases.{ReleasesAreCertified};
+ghost use Rattle.qna_live.specs.Live.{IsLiveEnd, OnLive};
 
 use crate::check::run_check;
 use crate::release::Releases;
+use command_words::{batch_words, plain_words};
+use qna_base::Memory;
 use qna_edges::{Cabinet, Gate, Sink, Status};
+use qna_live::run_live;
 use qna_parts::{carry_out, tell_usage};
 use std::alloc::Global;
 use std::sync::Wait;
 use std::thread::Threads;
 
-/// Whether a word may name a file: it isn't empty and doesn't begin with `-`.
-pub(crate) fn is_file_name(word: &str) -> bool
-    ensures { result ≡ is_file_name_of word.now }
-{
-    match word.as_bytes() {
-        [] => false,
-        [first, ..] => *first != b'-',
-    }
-}
-
-/// Whether the three names of files are right and different.
-fn are_file_names(plan: &str, input: &str, output: &str) -> bool
-    ensures value { result ≡ are_file_names_of plan.now input.now output.now }
-    ensures plan_input { result ≡ true → plan.now ≢ input.now }
-    ensures plan_output { result ≡ true → plan.now ≢ output.now }
-    ensures input_output { result ≡ true → input.now ≢ output.now }
-{
-    is_file_name(plan)
-        && is_file_name(input)
-        && is_file_name(output)
-        && plan != input
-        && plan != output
-        && input != output
-}
-
-/// Whether the first word is `check`.
-fn names_check(words: &[&str]) -> bool
-    ensures { result ≡ begins_check (words_in words.now) }
+/// Whether the first word is this one.
+fn names(words: &[&str], command: &str) -> bool
+    ensures { result ≡ begins_by command.now (words_in words.now) }
 {
     match words {
-        [word, ..] => *word == "check",
+        [word, ..] => *word == command,
         [] => false,
     }
 }
 
-/// Does all that the program does, by its words: `batch PLAN INPUT OUTPUT` or `check CERT`; words of any other form are
-/// `Usage`. The runtime and the gate serve commands whose desks wait for one another; no such command stands yet.
+/// Does all that the program does, by its words: `batch PLAN INPUT OUTPUT`, `check CERT`, or
+/// `live PLAN JOURNAL IN OUT ..` with one to sixteen pairs and, anywhere behind the first word, `--workers N`; words of
+/// any other form are `Usage`. The runtime and the gate serve `live`, whose desks wait for one another.
 #[tactic(auto, using(qna_laws::proofs::Certified::releases_certified, crate::proofs::Branches::branches))]
-pub fn run<R: Threads + Wait, C: Cabinet, K: Sink, G: Gate>(
-    _rt: &R,
+pub fn run<R: Threads + Wait + Sync, C: Cabinet, K: Sink, G: Gate>(
+    rt: &R,
     alloc: Global,
     words: &[&str],
     cabinet: &mut C,
     report: &mut K,
-    _gate: &G,
+    gate: &G,
 ) -> Status
-    ensures usage { result ≡ Status.Usage →
-        (is_batch (words_in words.now) ≡ false) × (is_check (words_in words.now) ≡ false) }
-    ensures form { is_batch (words_in words.now) ≡ false → is_check (words_in words.now) ≡ false
-        → result ≡ Status.Usage }
-    ensures untouched { result ≡ Status.Usage → cabinet.new ≡ cabinet.old }
+    ensures usage { result ≡ Status.Usage → HasNoForm (words_in words.now) }
+    ensures form { HasNoForm (words_in words.now) →
+        (result ≡ Status.Usage) ⊎ (result ≡ Status.Memory) }
+    ensures untouched { HasNoForm (words_in words.now) → cabinet.new ≡ cabinet.old }
+    ensures quiet { HasNoForm (words_in words.now) → result ≡ Status.Memory →
+        report.new ≡ report.old }
     ensures told { result ≡ Status.Usage →
         Writes (K.paper report.old) (K.paper report.new) (codes "usage\n") }
     ensures certified { ReleasesAreCertified }
@@ -76,16 +58,23 @@ pub fn run<R: Threads + Wait, C: Cabinet, K: Sink, G: Gate>(
     ensures checked { OnCheck (words_in words.now) (λ name.
         IsCheckEnd (C.shelves cabinet.old) (C.shelves cabinet.new)
         (K.paper report.old) (K.paper report.new) name result) }
+    ensures lived { OnLive (words_in words.now) (λ form.
+        IsLiveEnd (C.shelves cabinet.old) (C.shelves cabinet.new)
+        (K.paper report.old) (K.paper report.new) form result) }
 {
-    if names_check(words) {
+    if names(words, "check") {
         return run_check(alloc, words, cabinet, report);
+    }
+    if names(words, "live") {
+        return run_live(rt, alloc, words, cabinet, report, gate);
     }
     run_batch(alloc, words, cabinet, report)
 }
 
 /// Carries out the command `batch PLAN INPUT OUTPUT`: reads the plan, at most 2^20 bytes, takes the input, at most 2^30
 /// bytes, line by line, reports each refused line of it, and writes the release of all accepted inputs to the output.
-#[tactic(auto, using(qna_laws::proofs::Certified::releases_certified))]
+#[tactic(auto, using(qna_laws::proofs::Certified::releases_certified, command_words::proofs::Callers::on_batch,
+    crate::proofs::Wanting::batch_wanting))]
 pub fn run_batch<C: Cabinet, K: Sink>(
     alloc: Global,
     words: &[&str],
@@ -93,8 +82,11 @@ pub fn run_batch<C: Cabinet, K: Sink>(
     report: &mut K,
 ) -> Status
     ensures usage { result ≡ Status.Usage → is_batch (words_in words.now) ≡ false }
-    ensures form { is_batch (words_in words.now) ≡ false → result ≡ Status.Usage }
-    ensures untouched { result ≡ Status.Usage → cabinet.new ≡ cabinet.old }
+    ensures form { is_batch (words_in words.now) ≡ false →
+        (result ≡ Status.Usage) ⊎ (result ≡ Status.Memory) }
+    ensures untouched { is_batch (words_in words.now) ≡ false → cabinet.new ≡ cabinet.old }
+    ensures quiet { is_batch (words_in words.now) ≡ false → result ≡ Status.Memory →
+        report.new ≡ report.old }
     ensures told { result ≡ Status.Usage →
         Writes (K.paper report.old) (K.paper report.new) (codes "usage\n") }
     ensures certified { ReleasesAreCertified }
@@ -102,16 +94,22 @@ pub fn run_batch<C: Cabinet, K: Sink>(
         IsBatchEnd (C.shelves cabinet.old) (C.shelves cabinet.new)
         (K.paper report.old) (K.paper report.new) plan input output result) }
 {
-    match words {
-        [word, plan, input, output] => {
-            if *word != "batch" {
-                return tell_usage(report);
-            }
-            if !are_file_names(plan, input, output) {
-                return tell_usage(report);
-            }
-            carry_out(alloc, &Releases, plan, input, output, cabinet, report)
-        }
-        _ => tell_usage(report),
+    let plain = match plain_words(alloc, words) {
+        Ok(Some(plain)) => plain,
+        Ok(None) => return tell_usage(report),
+        Err(Memory) => return Status::Memory,
+    };
+    match batch_words(alloc, &plain) {
+        Ok(Some(names)) => carry_out(
+            alloc,
+            &Releases,
+            names.plan,
+            names.input,
+            names.output,
+            cabinet,
+            report,
+        ),
+        Ok(None) => tell_usage(report),
+        Err(Memory) => Status::Memory,
     }
 }

@@ -13,8 +13,10 @@ mod release;
 pub use batch::{batches_complete, batches_release};
 pub use check::{checks_complete, run_check};
 pub use command::{run, run_batch};
+pub use command_words::{PlainWords, plain_words};
 use qna_base::Memory;
 use qna_edges::{FileCabinet, OpenGate, Status, StdoutSink};
+pub use qna_live::{lives_complete, lives_have_causes, run_live};
 use qna_parts::{Unread, tell_unread, tell_usage};
 use std::alloc::Global;
 use std::io::Stdout;
@@ -24,6 +26,10 @@ use std::{env, fs, io};
 
 #[cfg(test)]
 mod check_tests;
+#[cfg(test)]
+mod live_gates;
+#[cfg(test)]
+mod live_tests;
 #[cfg(test)]
 mod tests;
 

@@ -3,7 +3,7 @@
 ghost use Rattle.std.specs.Prelude.{◌≡◌, ◌<◌, ℕ, List, length, IfOk};
 ghost use Rattle.series_tables.specs.declared.input.Input.{Input as InputOf};
 ghost use Rattle.qna_parts.specs.Making.{HoldsLast};
-ghost use Rattle.qna_cli.specs.Release.{release_of};
+ghost use Rattle.compile_workers.specs.Release.{release_of};
 
 use node_compile::compile_all;
 use qna_base::{Memory, Steps};
@@ -33,7 +33,7 @@ impl Make for Releases {
 }
 
 /// The text of the release, with a ledger for the solver's steps, which nobody asks for.
-#[tactic(auto, unfolding(crate::specs::Release::release_of))]
+#[tactic(auto, unfolding(compile_workers::specs::Release::release_of))]
 fn counted_release<L: Ledger>(
     alloc: Global,
     blank: Blank,

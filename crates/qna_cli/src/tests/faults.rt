@@ -280,7 +280,7 @@ fn a_write_that_fails_leaves_a_beginning(rt: HostRuntime) -> Result<(), Fail> {
 }
 
 /// Runs the words over no files, and asserts the status and the report.
-fn assert_words<R: Abort + Threads + Wait>(
+fn assert_words<R: Abort + Threads + Wait + Sync>(
     rt: &R,
     alloc: Global,
     words: &[&str],

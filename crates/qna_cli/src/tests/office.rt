@@ -4,7 +4,9 @@
 ghost use Rattle.std.specs.Prelude.{◌<◌, length};
 
 use super::{WORKING, left_by_batch};
+use crate::{run, run_check};
 use itoa::Buffer;
+use qna_edges::{MemCabinet, MemSink, MemSource, OpenGate, Status};
 use std::alloc::Global;
 use std::test::Fail;
 
@@ -162,5 +164,86 @@ fn an_office_gets_a_release_without_marks(rt: HostRuntime) -> Result<(), Fail> {
     assert!(rt; release.ends_with(LAST_LINES));
     assert!(rt; contains(&release, TOTAL_YEARS));
     assert!(rt; !has_mark(&release));
+    Ok(())
+}
+
+/// Puts a file of these bytes into a cabinet.
+fn put(alloc: Global, cabinet: &mut MemCabinet, name: &str, text: &[u8]) -> Result<(), Fail> {
+    let source = MemSource::new(text.to_vec(alloc)?, 4_096, Vec::new(alloc));
+    cabinet.put_file(name, source)?;
+    Ok(())
+}
+
+/// The words of a run with one desk, which asks for certificates.
+const ASK: [&str; 7] = ["live", "p", "k", "a", "b", "--workers", "0"];
+
+/// The last line of a certificate.
+const END: &[u8] = b"end\n";
+
+/// How many certificates stand in a text one behind the other, whose verdict is yes each.
+fn checked(alloc: Global, text: &[u8]) -> Result<u64, Fail> {
+    let mut count = 0;
+    let mut rest = text;
+    'certificates: for _ in 0..16_u8 {
+        let Some(place) = rest.windows(END.len()).position(|window| window == END) else {
+            break;
+        };
+        let (certificate, others) = rest.split_at(place + END.len());
+        let mut cabinet = MemCabinet::new(alloc);
+        put(alloc, &mut cabinet, "c", certificate)?;
+        let mut verdict = MemSink::new(alloc, 4_096, Vec::new(alloc));
+        if run_check(alloc, &["check", "c"], &mut cabinet, &mut verdict) == Status::Done {
+            count += 1;
+        }
+        rest = others;
+    }
+    Ok(count)
+}
+
+/// The lines of a desk that sends a journal again, waits, and asks for the certificate of each leaf.
+fn asking(alloc: Global, journal: &[u8]) -> Result<Vec<u8>, Fail> {
+    let mut lines = journal.to_vec(alloc)?;
+    lines.extend_from_slice(b"sync\n")?;
+    'items: for item in 1..13_u64 {
+        lines.extend_from_slice(b"cert,L")?;
+        push_number(&mut lines, item)?;
+        lines.push(b'\n')?;
+    }
+    Ok(lines)
+}
+
+/// The words of a run with two desks and three workers.
+const LIVE: [&str; 9] = ["live", "p", "j", "i", "o", "h", "g", "--workers", "3"];
+
+#[test]
+fn two_desks_and_three_workers_make_the_office(rt: HostRuntime) -> Result<(), Fail> {
+    let alloc = rt.alloc();
+    let mut first = Vec::new(alloc);
+    push_first_desk(&mut first)?;
+    let mut second = Vec::new(alloc);
+    push_second_desk(&mut second)?;
+    let mut cabinet = MemCabinet::new(alloc);
+    put(alloc, &mut cabinet, "p", PLAN)?;
+    put(alloc, &mut cabinet, "i", &first)?;
+    put(alloc, &mut cabinet, "h", &second)?;
+    let mut report = MemSink::new(alloc, 65_536, Vec::new(alloc));
+    let status = run(&rt, alloc, &LIVE, &mut cabinet, &mut report, &OpenGate);
+    assert_eq!(&rt; status, Status::Done);
+    let journal = cabinet.file("j").ok_or("no journal")?.to_vec(alloc)?;
+    let batch = left_by_batch(alloc, PLAN, &journal, &WORKING)?;
+    assert_eq!(&rt; batch.output.ok_or("no release")?.as_slice(), report.held());
+    assert!(&rt; batch.report.is_empty() && report.held().starts_with(b"release,996\n"));
+    assert!(&rt; !has_mark(report.held()));
+    put(alloc, &mut cabinet, "a", &asking(alloc, &journal)?)?;
+    let mut again = MemSink::new(alloc, 65_536, Vec::new(alloc));
+    let asked = run(&rt, alloc, &ASK, &mut cabinet, &mut again, &OpenGate);
+    assert!(&rt; asked == Status::Done && again.held() == report.held());
+    let answers = cabinet.file("b").ok_or("no answers")?;
+    let synced = b"synced,996\n".as_slice();
+    let place = answers
+        .windows(synced.len())
+        .position(|window| window == synced);
+    let behind = place.ok_or("no front")? + synced.len();
+    assert_eq!(rt; checked(alloc, &answers[behind..])?, 12);
     Ok(())
 }

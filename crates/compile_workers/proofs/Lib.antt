@@ -1,0 +1,16 @@
+pub mod Journals
+pub mod Stability
+pub mod Steps
+pub mod Writing
+pub mod LineAnswers
+pub mod Reading
+pub mod Desks
+pub mod Ends
+pub mod Shown
+pub mod Sole
+pub mod Worked
+pub mod Placing
+pub mod Working
+pub mod Closing
+pub mod Gathered
+pub mod Whole

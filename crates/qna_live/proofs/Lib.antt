@@ -1,0 +1,16 @@
+pub mod Apart
+pub mod Carried
+pub mod Causes
+pub mod DeskFiles
+pub mod Desks
+pub mod Given
+pub mod Plans
+pub mod Popped
+pub mod Releases
+pub mod Served
+pub mod Statuses
+pub mod Stopping
+pub mod Traces
+pub mod Whole
+pub mod Alone
+pub mod Beginnings

@@ -1,0 +1,5 @@
+use Rattle.qna_live.proofs.Alone.{desk_batches}
+use Rattle.qna_live.proofs.laws.one_desk_batches.Goals as goal
+
+pub returns : goal.returns
+returns c = desk_batches c.sole_desk_sends.ensures c.lawful_histories_are_within_bounds.ensures
