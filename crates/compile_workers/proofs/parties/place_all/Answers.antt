@@ -12,14 +12,30 @@ workers-preserved g c =
     let passes = put_passes c.workers.passes.items c.put_party.new.passes.items _ _ _ c.put_party.ensures.put in
     let places = put_places _ _ _ c.workers.parties.items c.put_party.new.parties.items c.put_party.ensures.put in
     let few : length c.args.desks.now.items ≤ length c.put_party.new.passes.items =
-    omega (arith, passes, c.workers-test.true, c.len.ensures, c.len-in-workers.ensures, c.args.desks.now.ok,
-    c.workers.passes.ok) in (
+    omega (
+      arith,
+      passes,
+      c.workers-test.true,
+      c.len.ensures,
+      c.len-in-workers.ensures,
+      c.args.desks.now.ok,
+      c.workers.passes.ok,
+    ) in (
       placed_worker c.workers.passes.items c.put_party.new.passes.items _ c.workers.parties.items
           c.put_party.new.parties.items _ c.put_party.ensures.put (mapped_few _ c.args.desks.now.items _ few)
           c.workers.invariant.0,
       omega (arith, few, c.args.desks.now.ok, c.put_party.new.passes.ok),
-      omega (arith, passes, places, c.workers.invariant.2, c.put_party.ensures.room, c.workers.passes.ok,
-          c.workers.parties.ok, c.put_party.new.passes.ok, c.put_party.new.parties.ok),
+      omega (
+        arith,
+        passes,
+        places,
+        c.workers.invariant.2,
+        c.put_party.ensures.room,
+        c.workers.passes.ok,
+        c.workers.parties.ok,
+        c.put_party.new.passes.ok,
+        c.put_party.new.parties.ok,
+      ),
       c.workers.invariant.3,
     )
 
@@ -39,7 +55,16 @@ desks-preserved g c =
           c.in-Some.is)
           puts (mapped_same _ c.pop.new.self.items _ same) c.desks.invariant.0,
       omega (arith, same, c.pop.new.self.ok, c.put_party-in-Some.new.passes.ok),
-      omega (arith, passes, places, c.desks.invariant.2, c.put_party-in-Some.ensures.room, c.desks.passes.ok,
-          c.desks.parties.ok, c.put_party-in-Some.new.passes.ok, c.put_party-in-Some.new.parties.ok),
+      omega (
+        arith,
+        passes,
+        places,
+        c.desks.invariant.2,
+        c.put_party-in-Some.ensures.room,
+        c.desks.passes.ok,
+        c.desks.parties.ok,
+        c.put_party-in-Some.new.passes.ok,
+        c.put_party-in-Some.new.parties.ok,
+      ),
       search rules,
     )

@@ -22,9 +22,12 @@ place_all-requires-clause-enough g c κs within =
     λ d. ends_told (g.S.Source.stock d.source) (g.K.Sink.paper d.sink) in
     let count : length (map told c.args.desks.items) ≡ vec_len c.args.desks =
     omega (arith, length-map c.args.desks.items told, c.args.desks.ok) in
-    omega (arith, c.args.passes.ok,
-    enough_for c.args.office c.args.plan.now c.requires.passes.0 (vec_len c.args.desks) (map told c.args.desks.items)
-    c.args.passes.items c.requires.desks.0 count c.requires.passes.2)
+    omega (
+      arith,
+      c.args.passes.ok,
+      enough_for c.args.office c.args.plan.now c.requires.passes.0 (vec_len c.args.desks) (map told c.args.desks.items)
+          c.args.passes.items c.requires.desks.0 count c.requires.passes.2,
+    )
 
 pub run_placed-requires-clause-each : goal.run_placed-requires-clause-each
 run_placed-requires-clause-each g c κs within =
@@ -101,11 +104,14 @@ returns-clause-ends g c quiet =
     λ d. ends_told (g.S.Source.stock d.source) (g.K.Sink.paper d.sink) in
     let count : length (map told c.args.desks.items) ≡ vec_len c.args.desks =
     omega (arith, length-map c.args.desks.items told, c.args.desks.ok) in
-    omega (arith, c.take_all-pass.new.room.ends.ok,
-    each_ended c.args.office c.args.plan.now c.requires.passes.0 (vec_len c.args.desks) (map told c.args.desks.items)
-    c.place_all.new.parties.items c.run_placed.new.parties.items c.args.passes.items c.requires.desks.0 c.requires.desks.1
-    count c.requires.passes.2 c.place_all.ensures.placed c.run_placed.ensures
-    c.take_all-pass.new.room.ends.items c.take_all-pass.ensures.ends)
+    omega (
+      arith,
+      c.take_all-pass.new.room.ends.ok,
+      each_ended c.args.office c.args.plan.now c.requires.passes.0 (vec_len c.args.desks) (map told c.args.desks.items)
+          c.place_all.new.parties.items c.run_placed.new.parties.items c.args.passes.items c.requires.desks.0 c.requires.desks.1
+          count c.requires.passes.2 c.place_all.ensures.placed c.run_placed.ensures
+          c.take_all-pass.new.room.ends.items c.take_all-pass.ensures.ends,
+    )
 
 pub take_all-pass-requires-clause-ends_room : goal.take_all-pass-requires-clause-ends_room
 take_all-pass-requires-clause-ends_room g c κs within =
