@@ -96,5 +96,14 @@ pub batch_no_form : (words : List (List ℕ)) → begins_by (codes "check") word
 batch_no_form words no_check no_live none =
     record { batch = none; check = not_check words no_check; live = live_unnamed words no_live }
 
-pub ruleset branches = (check_not_batch, check_not_live, check_no_form, live_not_batch, live_not_check, live_no_form,
-    batch_not_check, batch_not_live, batch_no_form)
+pub ruleset branches = (
+  check_not_batch,
+  check_not_live,
+  check_no_form,
+  live_not_batch,
+  live_not_check,
+  live_no_form,
+  batch_not_check,
+  batch_not_live,
+  batch_no_form,
+)

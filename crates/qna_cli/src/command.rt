@@ -12,7 +12,7 @@ ghost use Rattle.qna_live.specs.Live.{IsLiveEnd, OnLive};
 
 use crate::check::run_check;
 use crate::release::Releases;
-use command_words::{batch_words, plain_words};
+use command_words::{BatchWords, batch_words, plain_words};
 use qna_base::Memory;
 use qna_edges::{Cabinet, Gate, Sink, Status};
 use qna_live::run_live;
@@ -73,8 +73,7 @@ pub fn run<R: Threads + Wait + Sync, C: Cabinet, K: Sink, G: Gate>(
 
 /// Carries out the command `batch PLAN INPUT OUTPUT`: reads the plan, at most 2^20 bytes, takes the input, at most 2^30
 /// bytes, line by line, reports each refused line of it, and writes the release of all accepted inputs to the output.
-#[tactic(auto, using(qna_laws::proofs::Certified::releases_certified, command_words::proofs::Callers::on_batch,
-    crate::proofs::Wanting::batch_wanting))]
+#[tactic(auto, using(qna_laws::proofs::Certified::releases_certified, command_words::proofs::Callers::on_batch, crate::proofs::Wanting::batch_wanting))]
 pub fn run_batch<C: Cabinet, K: Sink>(
     alloc: Global,
     words: &[&str],
@@ -100,15 +99,14 @@ pub fn run_batch<C: Cabinet, K: Sink>(
         Err(Memory) => return Status::Memory,
     };
     match batch_words(alloc, &plain) {
-        Ok(Some(names)) => carry_out(
-            alloc,
-            &Releases,
-            names.plan,
-            names.input,
-            names.output,
-            cabinet,
-            report,
-        ),
+        Ok(Some(names)) => {
+            let BatchWords {
+                plan,
+                input,
+                output,
+            } = names;
+            carry_out(alloc, &Releases, plan, input, output, cabinet, report)
+        }
         Ok(None) => tell_usage(report),
         Err(Memory) => Status::Memory,
     }

@@ -3,6 +3,7 @@
 
 ghost use Rattle.std.specs.Prelude.{◌<◌, ◌≤◌, length};
 
+use crate::noting::Noting;
 use crate::run;
 use qna_edges::{Gate, MemCabinet, MemSink, MemSource, Place, Status};
 use std::alloc::Global;
@@ -190,60 +191,13 @@ fn a_desk_reads_while_a_job_is_held(rt: HostRuntime) -> Result<(), Fail> {
 /// How many jobs can be noted.
 const NOTES: usize = 64;
 
-/// The fronts and items of the jobs that parties come to, in the order in which they come.
-#[derive(Drop)]
-struct Noting {
-    count: AtomicU64,
-    fronts: Vec<AtomicU64>,
-    nodes: Vec<AtomicU64>,
-}
-
-impl Gate for Noting {
-    fn at(&self, _party: u16, place: Place) {
-        if let Place::BeforeJob { front, node } = place {
-            let next = self.count.fetch_add(1, Ordering::SeqCst) as usize;
-            if let (Some(fronts), Some(nodes)) = (self.fronts.get(next), self.nodes.get(next)) {
-                fronts.store(front, Ordering::SeqCst);
-                nodes.store(u64::from(node), Ordering::SeqCst);
-            }
-        }
-    }
-}
-
-impl Noting {
-    fn new(alloc: Global) -> Result<Noting, Fail> {
-        let mut fronts = Vec::new(alloc);
-        let mut nodes = Vec::new(alloc);
-        for _ in 0..NOTES {
-            fronts.push(AtomicU64::new(0))?;
-            nodes.push(AtomicU64::new(0))?;
-        }
-        Ok(Noting {
-            count: AtomicU64::new(0),
-            fronts,
-            nodes,
-        })
-    }
-
-    /// How many jobs were noted of an item at a front.
-    fn times(&self, front: u64, node: u64) -> usize {
-        self.fronts
-            .iter()
-            .zip(self.nodes.iter())
-            .filter(|(f, n)| {
-                f.load(Ordering::SeqCst) == front && n.load(Ordering::SeqCst) == node
-            })
-            .count()
-    }
-}
-
 /// Each front with an item that its round has a job for: the leaf that the input names, and the total.
 const JOBS: [(u64, u64); 4] = [(1, 1), (1, 0), (2, 2), (2, 0)];
 
 #[test]
 fn a_round_has_the_jobs_that_its_inputs_touch(rt: HostRuntime) -> Result<(), Fail> {
     let alloc = rt.alloc();
-    let gate = Noting::new(alloc)?;
+    let gate = Noting::new(alloc, NOTES)?;
     let lines = b"ind,FOOD,2021Q1,100\nsync\nind,SERV,2021Q1,200\nsync\n";
     let left = left_by_desk(&rt, alloc, lines, &gate)?;
     assert_eq!(&rt; left.status, Status::Done);
@@ -251,7 +205,7 @@ fn a_round_has_the_jobs_that_its_inputs_touch(rt: HostRuntime) -> Result<(), Fai
         left.answers.as_slice(),
         b"ok,1\nsynced,1\nok,2\nsynced,2\n".as_slice()
     );
-    assert_eq!(&rt; gate.count.load(Ordering::SeqCst), 4);
+    assert_eq!(&rt; gate.count(), 4);
     for (front, node) in JOBS {
         assert_eq!(&rt; gate.times(front, node), 1);
     }

@@ -31,6 +31,8 @@ mod live_gates;
 #[cfg(test)]
 mod live_tests;
 #[cfg(test)]
+mod noting;
+#[cfg(test)]
 mod tests;
 
 /// A file for reading that is always there and empty.

@@ -111,8 +111,7 @@ module _ (sole : SoleDeskSends)
         ⊎ EndsServed past.shape (traces_of old new (desk ∷ [])) (trace_of old new form.journal) before after Done =
         subst (λ (w : List DeskFiles).
         EndsUnserved (traces_of old new w) (trace_of old new form.journal) before after Done
-        ⊎ EndsServed past.shape (traces_of old new w) (trace_of old new form.journal) before after Done) one past.ends in
-        (
+        ⊎ EndsServed past.shape (traces_of old new w) (trace_of old new form.journal) before after Done) one past.ends in (
           past.shape,
           at_text (λ read. plan_of read ≡ Ok past.shape) (old.under form.plan).file spelled of_plan
               (past.spelled tells),

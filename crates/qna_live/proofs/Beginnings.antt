@@ -1,9 +1,10 @@
 -- The beginnings of a journal are journals, and what is compiled of them is worth what every release is.
-use Rattle.std.proofs.Common.{◌≡◌, ◌∙◌, ap, sym, refl, subst, ℕ, zero, suc, List, [], ◌∷◌, ◌++◌, take, Ok}
+use Rattle.std.proofs.Common.{◌≡◌, ◌∙◌, ap, sym, refl, subst, ℕ, zero, suc, ◌≤◌, List, [], ◌∷◌, ◌++◌, take, Ok}
 use Rattle.std.specs.Prelude.{All}
 use Rattle.std.proofs.lemmas.List.Elements.{All-head, All-nil, All-cons, All-tail, filter_map-append}
 use Rattle.series_tables.specs.Plan.{PlanShape, plan_of}
 use Rattle.series_tables.specs.IsPlan.{IsPlan}
+use Rattle.series_tables.specs.declared.input.Input.{Input}
 use Rattle.accounts_history.specs.History.{IsLawful, Sent, inputs_of, journal, sent_in}
 use Rattle.accounts_history.specs.declared.entry.Entry.{Entry}
 use Rattle.accounts_history.specs.declared.entry.Entry.TheVariants.{Accept, Publish}
@@ -24,7 +25,7 @@ pub record IsParted (history : List Entry) (front : ℕ) : Type 0 where
 parted : (history : List Entry) (front : ℕ) → IsParted history front
 parted [] front = record { before = []; after = []; parts = refl; inputs = sym (none front) }
   where
-    none : (n : ℕ) → take n [] ≡ []
+    none : (n : ℕ) → take {A = Input} n [] ≡ []
     none zero = refl
     none (suc n) = refl
 parted (Accept party input ∷ entries) zero =
@@ -34,7 +35,7 @@ parted (Accept party input ∷ entries) (suc front) =
       before = Accept party input ∷ rest.before;
       after = rest.after;
       parts = ap (λ (w : List Entry). Accept party input ∷ w) rest.parts;
-      inputs = ap (λ (w : List _). input ∷ w) rest.inputs;
+      inputs = ap (λ (w : List Input). input ∷ w) rest.inputs;
     }
 parted (Publish party published jobs ∷ entries) front =
     let rest = parted entries front in record {
@@ -54,8 +55,9 @@ front_of_all P (one ∷ some) more all =
 -- a journal's beginning came from desks too
 desks_before : (before after : List Entry) → IsOfDesks (before ++ after) → IsOfDesks before
 desks_before before after desks =
-    front_of_all _ (journal before) (journal after)
-    (subst (λ (w : List Sent). All _ w) (filter_map-append sent_in before after) desks)
+    front_of_all (λ (sent : Sent). (1 ≤ sent.party) × (sent.party ≤ 16)) (journal before) (journal after)
+    (subst (λ (w : List Sent). All (λ (sent : Sent). (1 ≤ sent.party) × (sent.party ≤ 16)) w)
+    (filter_map-append sent_in before after) desks)
 
 pub journals_certified : AreJournalsRead → ((text : List ℕ) (plan : PlanShape) → plan_of text ≡ Ok plan → IsPlan plan)
     → ReleasesAreCertified → JournalsAreCertified

@@ -75,7 +75,7 @@ IsUnopened-one old new journal desks =
 later-one : (old new : Shelves) (journal : List ℕ) (desk : DeskFiles) (desks : List DeskFiles) → IsUnopened-one old new journal desks → IsUnopened-one old new journal (desk ∷ desks)
 later-one old new journal desk desks one = elim one [ inl here ↦ inl here | inr there ↦ inr (inr there) ]
 
-unserved-ends : (old new : Shelves) (before after : Paper) (journal : List ℕ) (desks : List DeskFiles) (status : Status) → EndsUnserved (traces_of old new desks) (trace_of old new journal) before after status →
+pub unserved-ends : (old new : Shelves) (before after : Paper) (journal : List ℕ) (desks : List DeskFiles) (status : Status) → EndsUnserved (traces_of old new desks) (trace_of old new journal) before after status →
     ((status ≡ OpenFault) × IsUnopened-one old new journal desks) ⊎ (status ≡ Memory)
 unserved-ends old new before after journal [] status end = elim end [
   | inl refused ↦ elim (refused-ends IsUncreated (trace_of old new journal) before after status refused) [ inl failed ↦ inl (failed.0, inl failed.1.0) | inr wants ↦ inr wants ]

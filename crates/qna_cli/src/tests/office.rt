@@ -4,6 +4,7 @@
 ghost use Rattle.std.specs.Prelude.{◌<◌, length};
 
 use super::{WORKING, left_by_batch};
+use crate::noting::Noting;
 use crate::{run, run_check};
 use itoa::Buffer;
 use qna_edges::{MemCabinet, MemSink, MemSource, OpenGate, Status};
@@ -212,6 +213,78 @@ fn asking(alloc: Global, journal: &[u8]) -> Result<Vec<u8>, Fail> {
     Ok(lines)
 }
 
+/// How many jobs can be noted: three for each input.
+const NOTES: usize = 2_988;
+
+/// The number of the leaf that a line of a journal names.
+fn leaf_named(line: &[u8]) -> u64 {
+    let mut number = 0_u64;
+    let mut is_named = false;
+    for byte in line {
+        if is_named && !byte.is_ascii_digit() {
+            return number;
+        }
+        if is_named {
+            number = number
+                .saturating_mul(10)
+                .saturating_add(u64::from(byte.saturating_sub(b'0')));
+        }
+        is_named = is_named || *byte == b'L';
+    }
+    number
+}
+
+/// The leaves that a journal names, line by line.
+fn leaves_named(alloc: Global, journal: &[u8]) -> Result<Vec<u64>, Fail> {
+    let mut leaves = Vec::new(alloc);
+    for line in journal.split(|byte| *byte == b'\n') {
+        if !line.is_empty() {
+            leaves.push(leaf_named(line))?;
+        }
+    }
+    Ok(leaves)
+}
+
+/// Whether inputs for these leaves touch an item: it is one of them, the group of one, or the total.
+fn is_touched(leaves: &[u64], item: u64) -> bool {
+    leaves.iter().any(|leaf| {
+        item == 0 || item == leaf.saturating_add(3) || item == 1 + leaf.saturating_sub(1) / 4
+    })
+}
+
+/// Whether the jobs that were noted at a front are those of the items that these leaves touch, once each; in the last
+/// round, which may be ended without the gate, they are among these.
+fn are_jobs_of(gate: &Noting, front: u64, leaves: &[u64], is_last: bool) -> bool {
+    for item in 0..16_u64 {
+        let times = gate.times(front, item);
+        let wanted = usize::from(is_touched(leaves, item));
+        if times > wanted || (times < wanted && !is_last) {
+            return false;
+        }
+    }
+    true
+}
+
+/// Whether each round that was noted has the jobs of the items that its inputs touch and no others.
+fn rounds_have_their_jobs(gate: &Noting, leaves: &[u64]) -> bool {
+    let mut before = 0_usize;
+    let last = (1..=leaves.len())
+        .rev()
+        .find(|front| gate.has_front(*front as u64));
+    for front in 1..=leaves.len() {
+        if gate.has_front(front as u64) {
+            let Some(sent) = leaves.get(before..front) else {
+                return false;
+            };
+            if !are_jobs_of(gate, front as u64, sent, last == Some(front)) {
+                return false;
+            }
+            before = front;
+        }
+    }
+    true
+}
+
 /// The words of a run with two desks and three workers.
 const LIVE: [&str; 9] = ["live", "p", "j", "i", "o", "h", "g", "--workers", "3"];
 
@@ -227,9 +300,13 @@ fn two_desks_and_three_workers_make_the_office(rt: HostRuntime) -> Result<(), Fa
     put(alloc, &mut cabinet, "i", &first)?;
     put(alloc, &mut cabinet, "h", &second)?;
     let mut report = MemSink::new(alloc, 65_536, Vec::new(alloc));
-    let status = run(&rt, alloc, &LIVE, &mut cabinet, &mut report, &OpenGate);
+    let gate = Noting::new(alloc, NOTES)?;
+    let status = run(&rt, alloc, &LIVE, &mut cabinet, &mut report, &gate);
     assert_eq!(&rt; status, Status::Done);
     let journal = cabinet.file("j").ok_or("no journal")?.to_vec(alloc)?;
+    let leaves = leaves_named(alloc, &journal)?;
+    assert!(&rt; leaves.len() == 996 && 0 < gate.count());
+    assert!(&rt; rounds_have_their_jobs(&gate, &leaves));
     let batch = left_by_batch(alloc, PLAN, &journal, &WORKING)?;
     assert_eq!(&rt; batch.output.ok_or("no release")?.as_slice(), report.held());
     assert!(&rt; batch.report.is_empty() && report.held().starts_with(b"release,996\n"));
