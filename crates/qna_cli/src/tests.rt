@@ -6,7 +6,7 @@ mod faults;
 mod files;
 mod journals;
 mod limits;
-mod office;
+mod nine_years;
 mod pieces;
 mod rows;
 
