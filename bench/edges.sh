@@ -139,5 +139,27 @@ expect "a text that is no certificate" 7 $? "no," "$(head -c 3 report.txt)"
 "$program" check plan.csv > /dev/full
 expect "a no that can't be written" 7 $?
 
+# Desks: one whose answers can't be written, one whose input is a folder, a journal that can't be written, and two that name one file.
+cp clean.csv first.csv
+printf 'ind,FOOD,2021Q1,101\nsync\nrelease\n' > second.csv
+"$program" live plan.csv journal.csv first.csv first.out second.csv second.out > report.txt
+expect "two desks, with the journal and the report" 0 $? "$clean_sum" "$(sum_of first.csv)" 19 "$(wc -l < journal.csv)" \
+    "release,19" "$(head -1 report.txt)" "synced" "$(sed -n 2p second.out | cut -d, -f1)" 18 "$(grep -c '^ok,' first.out)"
+"$program" batch plan.csv journal.csv again.csv > /dev/null
+expect "batch of the journal gives the report" 0 $? "$(sum_of report.txt)" "$(sum_of again.csv)"
+"$program" live plan.csv journal.csv first.csv /dev/full second.csv second.out > report.txt
+expect "a desk whose answers can't be written ends alone" 6 $? "release" "$(head -1 report.txt | cut -d, -f1)" \
+    "end" "$(tail -1 second.out | cut -d, -f1)" "$(wc -l < journal.csv)" "$(head -1 report.txt | cut -d, -f2)"
+"$program" live plan.csv journal.csv . first.out second.csv second.out > report.txt
+expect "a folder as a desk's input ends that desk alone" 5 $? "" "$(cat first.out)" "release,1" "$(head -1 report.txt)" "end" "$(tail -1 second.out | cut -d, -f1)"
+"$program" live plan.csv /dev/full first.csv first.out second.csv second.out > report.txt
+expect "a journal that can't be written" 6 $? "release,19" "$(head -1 report.txt)"
+"$program" live plan.csv journal.csv first.csv first.out > /dev/full
+expect "a report of desks that can't be written" 6 $? "$(wc -l < journal.csv)" 18
+"$program" live plan.csv journal.csv none.csv first.out second.csv second.out > report.txt
+expect "a desk without its input" 4 $? "open,none.csv" "$(cat report.txt)"
+"$program" live plan.csv journal.csv first.csv first.out first.csv second.out > report.txt
+expect "two desks of one input" 2 $? "usage" "$(cat report.txt)"
+
 echo "$passed passed, $failed failed"
 [ "$failed" -eq 0 ]

@@ -22,16 +22,18 @@ fn desk(alloc: Global, text: &[u8]) -> Result<DeskEnds<MemSource, MemSink>, Fail
     })
 }
 
-/// Serves desks without a worker.
+/// Serves desks with so many workers.
 fn serve<R: Threads + Wait + Sync>(
     rt: &R,
     alloc: Global,
     plan: &Plan,
     desks: Vec<DeskEnds<MemSource, MemSink>>,
+    workers: u16,
 ) -> Result<Served<MemSource, MemSink>, Fail>
-    requires { (1 ≤ vec_len desks) × (vec_len desks ≤ 16) }
+    requires desks { (1 ≤ vec_len desks) × (vec_len desks ≤ 16) }
+    requires workers { workers ≤ 16 }
 {
-    let (office, passes) = Office::new(alloc, plan.copy(alloc)?, desks.len() as u16, 0)?;
+    let (office, passes) = Office::new(alloc, plan.copy(alloc)?, desks.len() as u16, workers)?;
     Ok(serve_parties(rt, alloc, office, plan, passes, desks, &OpenGate))
 }
 
@@ -77,7 +79,7 @@ fn told_by<R: Threads + Wait + Sync>(
 ) -> Result<Told, Fail> {
     let mut desks = Vec::new(alloc);
     desks.push(desk(alloc, lines)?)?;
-    let served = serve(rt, alloc, plan, desks)?;
+    let served = serve(rt, alloc, plan, desks, 0)?;
     told_of(alloc, &served)
 }
 
