@@ -20,50 +20,9 @@ const LOOKS: u64 = 2_147_483_648;
 const PLAN: &'static [u8] =
     b"start,2021\nreference,2022\nitem,TOTAL,\nitem,FOOD,TOTAL\nitem,SERV,TOTAL\n";
 
-/// The indicators of a leaf in three years, a benchmark for each year, and a price for each quarter.
-struct Leaf {
-    name: &'static str,
-    indicators: [u64; 12],
-    benchmarks: [u64; 3],
-    prices: [u64; 3],
-}
-
-const FOOD: Leaf = Leaf {
-    name: "FOOD",
-    indicators: [100, 100, 100, 100, 110, 110, 110, 110, 120, 120, 130, 130],
-    benchmarks: [400, 440, 500],
-    prices: [1_000_000, 1_375_000, 1_000_000],
-};
-
-const SERVICES: Leaf = Leaf {
-    name: "SERV",
-    indicators: [200, 200, 200, 200, 210, 210, 210, 210, 250, 250, 250, 250],
-    benchmarks: [800, 840, 1_000],
-    prices: [1_000_000, 700_000, 1_000_000],
-};
-
-/// Adds the lines of a leaf: 12 indicators, 12 prices and 3 benchmarks.
-fn push_leaf(alloc: Global, text: &mut String, leaf: &Leaf) -> Result<(), Fail> {
-    'quarters: for place in 0..12_usize {
-        let (year, quarter) = (2_021 + place / 4, place % 4 + 1);
-        let (value, price) = (leaf.indicators[place], leaf.prices[place / 4]);
-        let lines = format!(in alloc;
-            "ind,{},{}Q{},{}\nprice,{},{}Q{},{}\n",
-            leaf.name, year, quarter, value, leaf.name, year, quarter, price
-        )?;
-        text.push_str(lines.as_str())?;
-    }
-    'years: for place in 0..3_usize {
-        let line = format!(in alloc;
-            "bench,{},{},{}\n",
-            leaf.name,
-            2_021 + place,
-            leaf.benchmarks[place]
-        )?;
-        text.push_str(line.as_str())?;
-    }
-    Ok(())
-}
+/// One input of three years of two leaves, a question for the release, the other 53, and two questions more.
+const LINES: &'static [u8] =
+    b"ind,FOOD,2021Q1,100\nrelease\nprice,FOOD,2021Q1,1000000\nind,FOOD,2021Q2,100\nprice,FOOD,2021Q2,1000000\nind,FOOD,2021Q3,100\nprice,FOOD,2021Q3,1000000\nind,FOOD,2021Q4,100\nprice,FOOD,2021Q4,1000000\nind,FOOD,2022Q1,110\nprice,FOOD,2022Q1,1375000\nind,FOOD,2022Q2,110\nprice,FOOD,2022Q2,1375000\nind,FOOD,2022Q3,110\nprice,FOOD,2022Q3,1375000\nind,FOOD,2022Q4,110\nprice,FOOD,2022Q4,1375000\nind,FOOD,2023Q1,120\nprice,FOOD,2023Q1,1000000\nind,FOOD,2023Q2,120\nprice,FOOD,2023Q2,1000000\nind,FOOD,2023Q3,130\nprice,FOOD,2023Q3,1000000\nind,FOOD,2023Q4,130\nprice,FOOD,2023Q4,1000000\nbench,FOOD,2021,400\nbench,FOOD,2022,440\nbench,FOOD,2023,500\nind,SERV,2021Q1,200\nprice,SERV,2021Q1,1000000\nind,SERV,2021Q2,200\nprice,SERV,2021Q2,1000000\nind,SERV,2021Q3,200\nprice,SERV,2021Q3,1000000\nind,SERV,2021Q4,200\nprice,SERV,2021Q4,1000000\nind,SERV,2022Q1,210\nprice,SERV,2022Q1,700000\nind,SERV,2022Q2,210\nprice,SERV,2022Q2,700000\nind,SERV,2022Q3,210\nprice,SERV,2022Q3,700000\nind,SERV,2022Q4,210\nprice,SERV,2022Q4,700000\nind,SERV,2023Q1,250\nprice,SERV,2023Q1,1000000\nind,SERV,2023Q2,250\nprice,SERV,2023Q2,1000000\nind,SERV,2023Q3,250\nprice,SERV,2023Q3,1000000\nind,SERV,2023Q4,250\nprice,SERV,2023Q4,1000000\nbench,SERV,2021,800\nbench,SERV,2022,840\nbench,SERV,2023,1000\nrelease\nsync\n";
 
 /// What a run left.
 #[derive(Drop)]
@@ -171,16 +130,8 @@ impl Holds {
 #[test]
 fn a_desk_reads_while_a_job_is_held(rt: HostRuntime) -> Result<(), Fail> {
     let alloc = rt.alloc();
-    let mut rest = String::new(alloc);
-    push_leaf(alloc, &mut rest, &FOOD)?;
-    push_leaf(alloc, &mut rest, &SERVICES)?;
-    let first = b"ind,FOOD,2021Q1,100\n".as_slice();
-    let mut lines = first.to_vec(alloc)?;
-    lines.extend_from_slice(b"release\n")?;
-    lines.extend_from_slice(&rest.as_bytes()[first.len()..])?;
-    lines.extend_from_slice(b"release\nsync\n")?;
     let gate = Holds::new();
-    let left = left_by_desk(&rt, alloc, &lines, &gate)?;
+    let left = left_by_desk(&rt, alloc, LINES, &gate)?;
     assert_eq!(&rt; left.status, Status::Done);
     assert!(&rt; gate.all_held());
     assert!(&rt; left.answers.starts_with(b"ok,1\nrelease,0\n"));

@@ -183,7 +183,7 @@ const END: &[u8] = b"end\n";
 
 /// How many certificates stand in a text one behind the other, whose verdict is yes each.
 fn checked(alloc: Global, text: &[u8]) -> Result<u64, Fail> {
-    let mut count = 0;
+    let mut count = 0_u64;
     let mut rest = text;
     'certificates: for _ in 0..16_u8 {
         let Some(place) = rest.windows(END.len()).position(|window| window == END) else {
@@ -194,7 +194,7 @@ fn checked(alloc: Global, text: &[u8]) -> Result<u64, Fail> {
         put(alloc, &mut cabinet, "c", certificate)?;
         let mut verdict = MemSink::new(alloc, 4_096, Vec::new(alloc));
         if run_check(alloc, &["check", "c"], &mut cabinet, &mut verdict) == Status::Done {
-            count += 1;
+            count = count.saturating_add(1);
         }
         rest = others;
     }
@@ -320,7 +320,8 @@ fn two_desks_and_three_workers_make_the_office(rt: HostRuntime) -> Result<(), Fa
     let place = answers
         .windows(synced.len())
         .position(|window| window == synced);
-    let behind = place.ok_or("no front")? + synced.len();
-    assert_eq!(rt; checked(alloc, &answers[behind..])?, 12);
+    let behind = place.ok_or("no front")?.saturating_add(synced.len());
+    let certificates = answers.get(behind..answers.len()).ok_or("no certificates")?;
+    assert_eq!(rt; checked(alloc, certificates)?, 12);
     Ok(())
 }
