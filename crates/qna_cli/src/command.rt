@@ -33,7 +33,8 @@ fn names(words: &[&str], command: &str) -> bool
 
 /// Does all that the program does, by its words: `batch PLAN INPUT OUTPUT`, `check CERT`, or
 /// `live PLAN JOURNAL IN OUT ..` with one to sixteen pairs and, anywhere behind the first word, `--workers N`; words of
-/// any other form are `Usage`. The runtime and the gate serve `live`, whose desks wait for one another.
+/// any other form are `Usage`, or want of memory, and touch no file. The runtime and the gate serve `live`, whose desks
+/// wait for one another.
 #[tactic(auto, using(qna_laws::proofs::Certified::releases_certified, crate::proofs::Branches::branches))]
 pub fn run<R: Threads + Wait + Sync, C: Cabinet, K: Sink, G: Gate>(
     rt: &R,
