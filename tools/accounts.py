@@ -91,15 +91,17 @@ def item_of(release, name):
 
 
 def leaf_of(inputs, release, name):
-    """A benchmarked leaf, from an input and the release that was made from it."""
+    """A benchmarked leaf, from an input and the release that was made from it; its benchmarks by the year, counted from 0."""
     given, item = read_input(inputs), item_of(release, name)
     if not item.g:
         raise Fault(f'{name} has no benchmarked year in {release}')
     count, scale, gap = item.g
     values = list(item.v.values())
     indicators = [given.get(('ind', name, quarter)) for quarter in item.v]
-    benchmarks = [given.get(('bench', name, year)) for year in item.a][:count]
-    if None in indicators or benchmarks != [sum(values[4 * y:4 * y + 4]) for y in range(count)]:
+    whole_years = list(item.a)[:len(values) // 4]
+    benchmarks = {y: given[('bench', name, year)] for y, year in enumerate(whole_years) if ('bench', name, year) in given}
+    if None in indicators or len(benchmarks) != count \
+            or any(benchmark != sum(values[4 * y:4 * y + 4]) for y, benchmark in benchmarks.items()):
         raise Fault(f'{release} was not made from {inputs}: the indicators or benchmarks of {name} differ')
     return SimpleNamespace(quarters=list(item.v), indicators=indicators, values=values, benchmarks=benchmarks,
                            gap=gap / 100**scale)

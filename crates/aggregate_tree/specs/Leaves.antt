@@ -1,6 +1,6 @@
--- An item's cells are sums over the leaves under it, quarter by quarter: where all leaves have a value the sum of the values, else the first mark that
--- occurs. Volumes at previous-year prices are additive (chapter 8 of the IMF Quarterly National Accounts Manual, 2017); the marks and the treatment of
--- shorter leaves are this product's own.
+-- An item's cells are sums over the leaves under it, quarter by quarter: where all leaves have a value the sum of the
+-- values, else the first mark that occurs. Volumes at previous-year prices are additive (chapter 8 of the IMF Quarterly
+-- National Accounts Manual, 2017); the marks and the treatment of shorter leaves are this product's own.
 use Rattle.std.specs.Prelude.{◌≡◌, ℕ, ◌<◌, max, List, [], ◌∷◌, map, length}
 use Rattle.std.specs.List.{All, range_with_len, flat_map}
 use Rattle.price_base.specs.declared.Cell.{Cell}
@@ -29,7 +29,9 @@ all_leaves children = flat_map (λ leaves. leaves) children
 
 -- adding up children, each of which is the sum over the leaves under it, gives the sum over all these leaves
 abbrev pub IsSumOverLeaves : Type 0
-IsSumOverLeaves = (children : List (List (List Cell))) → All HasLeaf children → added (map added children) ≡ added (all_leaves children)
+IsSumOverLeaves =
+    (children : List (List (List Cell)))
+    → All HasLeaf children → added (map added children) ≡ added (all_leaves children)
 
 -- a leaf is the sum over itself
 abbrev pub IsOwnSum : Type 0

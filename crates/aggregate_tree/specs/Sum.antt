@@ -2,7 +2,8 @@
 use Rattle.std.specs.Prelude.{◌≡◌, ℕ, ◌+◌, ◌≤◌, List, length, replicate}
 use Rattle.price_base.specs.declared.Cell.{Cell}
 use Rattle.aggregate_tree.specs.declared.tally.Tally.{Tally}
-use Rattle.aggregate_tree.specs.Tallies.{no_tally, tally_at, cells_of, with_cells, AreCounts, AreValueSums, AreVolumeSums}
+use Rattle.aggregate_tree.specs.Tallies.{no_tally, tally_at, cells_of, with_cells}
+use Rattle.aggregate_tree.specs.Tallies.{AreCounts, AreValueSums, AreVolumeSums}
 
 -- how many children were added, and the tallies of their values and of their volumes at previous-year prices
 pub record Sum : Type 0 where
@@ -16,7 +17,8 @@ empty_sum quarters = record { children = 0; value = replicate quarters no_tally;
 
 -- the sum with one more child of these values and volumes
 abbrev pub with_child : List Cell → List Cell → Sum → Sum
-with_child value prev sum = record { children = sum.children + 1; value = with_cells value sum.value; prev = with_cells prev sum.prev }
+with_child value prev sum =
+    record { children = sum.children + 1; value = with_cells value sum.value; prev = with_cells prev sum.prev }
 
 -- two sums have the same cells
 abbrev pub HaveSameCells : Sum → Sum → Type 0

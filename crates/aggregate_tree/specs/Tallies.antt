@@ -1,6 +1,7 @@
--- What a sum keeps of each quarter, so that its cell is known and a child can be put in or taken out: the sum of the values, and how many of the
--- children's cells are of each mark. It is this product's own.
-use Rattle.std.specs.Prelude.{◌≡◌, ℕ, ◌+◌, ◌^◌, ◌*◌, ◌≤◌, ◌<◌, nat_lt, ℤ, pos, ◌+ℤ◌, Bool, if◌then◌else◌, List, [], ◌∷◌, map, length, unsigned_abs, slice_get, slice_index_or, Option, Some, None, IfSome}
+-- What a sum keeps of each quarter, so that its cell is known and a child can be put in or taken out: the sum of the
+-- values, and how many of the children's cells are of each mark. It is this product's own.
+use Rattle.std.specs.Prelude.{◌≡◌, ℕ, ◌+◌, ◌^◌, ◌*◌, ◌≤◌, ◌<◌, nat_lt, ℤ, pos, ◌+ℤ◌, Bool, if◌then◌else◌, List, [], ◌∷◌}
+use Rattle.std.specs.Prelude.{map, length, unsigned_abs, slice_get, slice_index_or, Option, Some, None, IfSome}
 use Rattle.std.specs.List.{range_with_len, take_while}
 use Rattle.price_base.specs.declared.Cell.{Cell}
 use Rattle.price_base.specs.declared.Cell.TheVariants.{Missing, Value, NoBase, NoLink, Range}
@@ -38,7 +39,10 @@ pub record IsSumOf (lists : List (List Cell)) (tallies : List Tally) : Type 0 wh
 
 -- the cell of a quarter from its tally: the first mark that was counted, else the sum
 abbrev pub cell_of : Tally → Cell
-cell_of tally = if nat_lt 0 tally.missing then Missing else (if nat_lt 0 tally.no_base then NoBase else (if nat_lt 0 tally.range then Range else Value tally.sum))
+cell_of tally =
+    if nat_lt 0 tally.missing then Missing
+    else (if nat_lt 0 tally.no_base then NoBase
+    else (if nat_lt 0 tally.range then Range else Value tally.sum))
 
 -- a list has the quarter
 abbrev pub is_reached : Tally → Bool
@@ -50,16 +54,53 @@ cells_of tallies = map cell_of (take_while is_reached tallies)
 
 -- a tally with the cell of one more list, or with none where that list has ended
 abbrev pub with_cell : Option Cell → Tally → Tally
-with_cell None tally = record { sum = tally.sum; present = tally.present; missing = 1 + tally.missing; no_base = tally.no_base; range = tally.range }
-with_cell (Some Missing) tally = record { sum = tally.sum; present = 1 + tally.present; missing = 1 + tally.missing; no_base = tally.no_base; range = tally.range }
-with_cell (Some (Value value)) tally = record { sum = value +ℤ tally.sum; present = 1 + tally.present; missing = tally.missing; no_base = tally.no_base; range = tally.range }
-with_cell (Some NoBase) tally = record { sum = tally.sum; present = 1 + tally.present; missing = tally.missing; no_base = 1 + tally.no_base; range = tally.range }
-with_cell (Some NoLink) tally = record { sum = tally.sum; present = 1 + tally.present; missing = tally.missing; no_base = tally.no_base; range = tally.range }
-with_cell (Some Range) tally = record { sum = tally.sum; present = 1 + tally.present; missing = tally.missing; no_base = tally.no_base; range = 1 + tally.range }
+with_cell None tally = record {
+  sum = tally.sum;
+  present = tally.present;
+  missing = 1 + tally.missing;
+  no_base = tally.no_base;
+  range = tally.range;
+}
+with_cell (Some Missing) tally = record {
+  sum = tally.sum;
+  present = 1 + tally.present;
+  missing = 1 + tally.missing;
+  no_base = tally.no_base;
+  range = tally.range;
+}
+with_cell (Some (Value value)) tally = record {
+  sum = value +ℤ tally.sum;
+  present = 1 + tally.present;
+  missing = tally.missing;
+  no_base = tally.no_base;
+  range = tally.range;
+}
+with_cell (Some NoBase) tally = record {
+  sum = tally.sum;
+  present = 1 + tally.present;
+  missing = tally.missing;
+  no_base = 1 + tally.no_base;
+  range = tally.range;
+}
+with_cell (Some NoLink) tally = record {
+  sum = tally.sum;
+  present = 1 + tally.present;
+  missing = tally.missing;
+  no_base = tally.no_base;
+  range = tally.range;
+}
+with_cell (Some Range) tally = record {
+  sum = tally.sum;
+  present = 1 + tally.present;
+  missing = tally.missing;
+  no_base = tally.no_base;
+  range = 1 + tally.range;
+}
 
 -- the tallies with one more list
 unfoldable pub with_cells : List Cell → List Tally → List Tally
-with_cells cells tallies = map (λ t. with_cell (slice_get cells t) (tally_at tallies t)) (range_with_len 0 (length tallies))
+with_cells cells tallies =
+    map (λ t. with_cell (slice_get cells t) (tally_at tallies t)) (range_with_len 0 (length tallies))
 
 -- the counts of a tally are at most so many
 pub record AreCounts (most : ℕ) (tally : Tally) : Type 0 where

@@ -1,13 +1,15 @@
-ghost use Rattle.std.specs.Prelude.{◌≡◌, ◌<◌, ◌≤◌, ◌^◌, ◌+◌, ◌↔◌, ℕ, IsTrue, IfOk, unsigned_abs, length, map, slice_get};
+ghost use Rattle.std.specs.Prelude.{◌≡◌, ◌<◌, ◌≤◌, ◌^◌, ◌+◌, ◌↔◌, ℕ, IsTrue, IfOk, unsigned_abs};
+ghost use Rattle.std.specs.Prelude.{length, map, slice_get};
 ghost use Rattle.std.specs.List.{take_while};
-ghost use Rattle.aggregate_tree.specs.Tallies.{no_tally, tally_at, cell_of, is_reached, cells_of, with_cell, with_cells, AreCounts};
+ghost use Rattle.aggregate_tree.specs.Tallies.{no_tally, tally_at, cell_of, is_reached, cells_of};
+ghost use Rattle.aggregate_tree.specs.Tallies.{with_cell, with_cells, AreCounts};
 
 use price_base::Cell;
 use qna_base::Memory;
 use std::alloc::Global;
 
-/// What the cells of one quarter come to: the sum of the values, how many children have the quarter, and how many of the cells are of each mark. A child
-/// that ends before the quarter counts as missing.
+/// What the cells of one quarter come to: the sum of the values, how many children have the quarter, and how many of
+/// the cells are of each mark. A child that ends before the quarter counts as missing.
 #[derive(Clone, Copy, Debug)]
 pub struct Tally {
     pub sum: i128,
@@ -91,7 +93,8 @@ fn quarter(cells: &[Cell], t: usize) -> Option<Cell>
 pub fn add_cells(tallies: &mut [Tally], cells: &[Cell])
     requires counts { (t : ℕ) → AreCounts 511 (tally_at tallies.old t) }
     requires sizes { (t : ℕ) → unsigned_abs (tally_at tallies.old t).sum ≤ 10 ^ 27 }
-    requires sums { (t : ℕ) → t < length tallies.old → unsigned_abs (with_cell (slice_get cells.now t) (tally_at tallies.old t)).sum ≤ 10 ^ 27 }
+    requires sums { (t : ℕ) → t < length tallies.old →
+        unsigned_abs (with_cell (slice_get cells.now t) (tally_at tallies.old t)).sum ≤ 10 ^ 27 }
     ensures with { tallies.new ≡ with_cells cells.now tallies.old }
 {
     for t in 0..tallies.len() {

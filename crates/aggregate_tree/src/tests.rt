@@ -79,8 +79,8 @@ fn without_last(cells: &[Cell; 12]) -> &[Cell] {
     &cells[..11]
 }
 
-// Two children and their sum: food and services; fish without a base in two years, and services; food without its last quarter, and services;
-// and all marks.
+// Two children and their sum: food and services; fish without a base in two years, and services; food without its last
+// quarter, and services; and all marks.
 #[test]
 fn children_add_up_or_leave_their_first_mark(rt: HostRuntime) -> Result<(), Fail> {
     let alloc = rt.alloc();

@@ -9,12 +9,14 @@ use Rattle.annual_overlap.specs.declared.Point.TheVariants.{Known, Marked}
 
 -- both numbers of a link are above zero, and small enough to be multiplied with a level
 abbrev pub IsSmallLink : Ratio → Type 0
-IsSmallLink (Of volume before) = (pos 0 <ℤ volume) × (volume ≤ℤ pos (4 * 10 ^ 18)) × (pos 0 <ℤ before) × (before ≤ℤ pos (4 * 10 ^ 18))
+IsSmallLink (Of volume before) =
+    (pos 0 <ℤ volume) × (volume ≤ℤ pos (4 * 10 ^ 18)) × (pos 0 <ℤ before) × (before ≤ℤ pos (4 * 10 ^ 18))
 IsSmallLink (Broken mark) = Unit {0}
 
 -- a level and a drift in their range
 abbrev pub IsSmallPoint : Point → Type 0
-IsSmallPoint (Known level drift) = (pos 0 ≤ℤ level) × (level ≤ℤ pos (10 ^ 19)) × (pos 0 ≤ℤ drift) × (drift ≤ℤ pos (10 ^ 19))
+IsSmallPoint (Known level drift) =
+    (pos 0 ≤ℤ level) × (level ≤ℤ pos (10 ^ 19)) × (pos 0 ≤ℤ drift) × (drift ≤ℤ pos (10 ^ 19))
 IsSmallPoint (Marked mark) = Unit {0}
 
 -- a rate that a quarter's volume can be multiplied with

@@ -10,7 +10,8 @@ year_count quarters = (quarters + 3) / 4
 
 -- the cells of the four quarters of a year; a quarter that isn't there is missing
 abbrev pub quarters_in : List Cell → ℕ → List Cell
-quarters_in cells y = cell_at cells (4 * y) ∷ cell_at cells (4 * y + 1) ∷ cell_at cells (4 * y + 2) ∷ cell_at cells (4 * y + 3) ∷ []
+quarters_in cells y =
+    cell_at cells (4 * y) ∷ cell_at cells (4 * y + 1) ∷ cell_at cells (4 * y + 2) ∷ cell_at cells (4 * y + 3) ∷ []
 
 -- the cell of a year: the sum of its four quarters, or the first mark among them in the order of sums
 abbrev pub year_cell : List Cell → ℕ → Cell

@@ -1,10 +1,12 @@
-ghost use Rattle.std.specs.Prelude.{◌≡◌, ◌≤◌, ◌<◌, ◌^◌, ◌*◌, ◌+◌, ℕ, pos, ◌+ℤ◌, ◌*ℤ◌, ◌<ℤ◌, ◌≤ℤ◌, unsigned_abs, length, slice_index_or, IfOk, map};
+ghost use Rattle.std.specs.Prelude.{◌≡◌, ◌≤◌, ◌<◌, ◌^◌, ◌*◌, ◌+◌, ℕ, pos, ◌+ℤ◌, ◌*ℤ◌, ◌<ℤ◌, ◌≤ℤ◌, unsigned_abs, length};
+ghost use Rattle.std.specs.Prelude.{slice_index_or, IfOk, map};
 ghost use Rattle.ratio_arith.specs.Division.{round_of, ceil_of};
 ghost use Rattle.price_base.specs.declared.Cell.TheVariants.{Missing};
 ghost use Rattle.price_base.specs.Cells.{cell_at};
 ghost use Rattle.annual_overlap.specs.declared.Point.TheVariants.{Marked};
 ghost use Rattle.annual_overlap.specs.Years.{IsSizedCell};
-ghost use Rattle.annual_overlap.specs.Chain.{link_of, link_after, point_within, moved, step_forward, step_backward, reference_point, point_at, points_of, level_cell, drift_cell};
+ghost use Rattle.annual_overlap.specs.Chain.{link_of, link_after, point_within, moved, step_forward, step_backward};
+ghost use Rattle.annual_overlap.specs.Chain.{reference_point, point_at, points_of, level_cell, drift_cell};
 ghost use Rattle.annual_overlap.specs.Sizes.{IsSmallLink, IsSmallPoint};
 
 use crate::years::cell_or_missing;
@@ -198,7 +200,8 @@ fn write_before(values: &[Cell], volumes: &[Cell], reference: usize, out: &mut [
     requires years { length values.now ≤ 512 }
     requires places { length out.old ≡ length values.now }
     requires small { (k : ℕ) → IsSmallPoint (slice_index_or out.old k (Marked Missing)) }
-    ensures before { (k : ℕ) → k < reference → k < length values.now → slice_index_or out.new k (Marked Missing) ≡ point_at values.now volumes.now reference k }
+    ensures before { (k : ℕ) → k < reference → k < length values.now →
+        slice_index_or out.new k (Marked Missing) ≡ point_at values.now volumes.now reference k }
     ensures small { (k : ℕ) → IsSmallPoint (slice_index_or out.new k (Marked Missing)) }
 {
     let mut point = first_point(cell_or_missing(values, reference));
@@ -213,7 +216,8 @@ fn write_after(values: &[Cell], volumes: &[Cell], reference: usize, out: &mut [P
     requires volumes { (k : ℕ) → IsSizedCell (4 * 10 ^ 18) (cell_at volumes.now k) }
     requires years { length values.now ≤ 512 }
     requires places { length out.old ≡ length values.now }
-    requires before { (k : ℕ) → k < reference → k < length values.now → slice_index_or out.old k (Marked Missing) ≡ point_at values.now volumes.now reference k }
+    requires before { (k : ℕ) → k < reference → k < length values.now →
+        slice_index_or out.old k (Marked Missing) ≡ point_at values.now volumes.now reference k }
     requires small { (k : ℕ) → IsSmallPoint (slice_index_or out.old k (Marked Missing)) }
     ensures points { out.new ≡ points_of values.now volumes.now reference }
     ensures small { (k : ℕ) → IsSmallPoint (slice_index_or out.new k (Marked Missing)) }
@@ -234,8 +238,10 @@ pub fn points(
 ) -> Result<Vec<Point>, Memory>
     requires volumes { (k : ℕ) → IsSizedCell (4 * 10 ^ 18) (cell_at volumes.now k) }
     requires years { length values.now ≤ 512 }
-    ensures points { IfOk result (λ points. points.items ≡ points_of values.now volumes.now reference) }
-    ensures small { IfOk result (λ points. (k : ℕ) → IsSmallPoint (slice_index_or points.items k (Marked Missing))) }
+    ensures points { IfOk result (λ points.
+        points.items ≡ points_of values.now volumes.now reference) }
+    ensures small { IfOk result (λ points. (k : ℕ) →
+        IsSmallPoint (slice_index_or points.items k (Marked Missing))) }
 {
     let mut points = vec![in alloc; Point::Marked(Cell::Missing); values.len()]?;
     write_before(values, volumes, reference, &mut points);

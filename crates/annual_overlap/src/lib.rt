@@ -1,4 +1,5 @@
-//! The chain of an item by annual overlap: its years' values and volumes, levels with their drift, and chained quarters.
+//! The chain of an item by annual overlap: its years' values and volumes, levels with their drift, and chained
+//! quarters.
 #![tactic(auto)]
 
 ghost use Rattle.std.specs.Prelude.{◌≡◌, ◌≤◌, ◌^◌, ◌*◌, length, IfOk};
@@ -16,7 +17,8 @@ mod levels;
 mod quarters;
 mod years;
 
-/// A ratio of two whole numbers that is never rounded, the second of them above zero, or the mark that says why there is none.
+/// A ratio of two whole numbers that is never rounded, the second of them above zero, or the mark that says why there
+/// is none.
 #[derive(Clone, Copy)]
 pub enum Ratio {
     /// There is no ratio.
@@ -25,7 +27,8 @@ pub enum Ratio {
     Of(i128, i128),
 }
 
-/// A year's chained level with its drift, both in ten-thousandths of a currency unit, or the mark that says why there is none.
+/// A year's chained level with its drift, both in ten-thousandths of a currency unit, or the mark that says why there
+/// is none.
 #[derive(Clone, Copy)]
 pub enum Point {
     /// There is no level.
@@ -34,7 +37,8 @@ pub enum Point {
     Known(i128, i128),
 }
 
-/// An item's chain. The first four lists have one cell for each year that has a quarter, the last has one for each quarter.
+/// An item's chain. The first four lists have one cell for each year that has a quarter, the last has one for each
+/// quarter.
 #[derive(Debug, Drop)]
 pub struct ChainTable {
     /// The years' values, in whole currency units.
@@ -49,24 +53,33 @@ pub struct ChainTable {
     pub quarter: Cells,
 }
 
-/// The chain of an item by annual overlap, with a reference year counted from the item's first year (chapter 8 of the IMF Quarterly National Accounts
-/// Manual, 2017; levels in ten-thousandths, the drift, ranges and marks are this product's own).
+/// The chain of an item by annual overlap, with a reference year counted from the item's first year (chapter 8 of the
+/// IMF Quarterly National Accounts Manual, 2017; levels in ten-thousandths, the drift, ranges and marks are this
+/// product's own).
 ///
-/// A year's value and volume are the sums of its four quarters, or the first mark among them in the order missing, no base, range; a quarter that
-/// isn't there is missing. The level of the reference year is its value, and each further level is the one before it times the link, or divided by it,
-/// rounded with halves up. A link is a year's volume over the value of the year before. Where a number on the way is missing, not above zero or out of
-/// range, the level and its drift are the mark that says so. A complete year shares its level out over its quarters; a quarter of another year is its
-/// volume times the level over the value of the year before.
+/// A year's value and volume are the sums of its four quarters, or the first mark among them in the order missing, no
+/// base, range; a quarter that isn't there is missing. The level of the reference year is its value, and each further
+/// level is the one before it times the link, or divided by it, rounded with halves up. A link is a year's volume over
+/// the value of the year before. Where a number on the way is missing, not above zero or out of range, the level and
+/// its drift are the mark that says so. A complete year shares its level out over its quarters; a quarter of another
+/// year is its volume times the level over the value of the year before.
 ///
-/// Values are at most 10^27 and volumes at most 512 * 10^15 in size, over at most 512 quarters. Want of memory is the only refusal.
+/// Values are at most 10^27 and volumes at most 512 * 10^15 in size, over at most 512 quarters. Want of memory is the
+/// only refusal.
 pub fn chain(alloc: Global, flows: &NodeFlows, reference: Year) -> Result<ChainTable, Memory>
     requires values { All (IsSizedCell (10 ^ 27)) flows.now.value }
     requires volumes { All (IsSizedCell (512 * 10 ^ 15)) flows.now.prev }
     requires quarters { length flows.now.value ≤ 512 }
-    ensures table { IfOk result (λ table. table ≡ chain_of flows.now.value flows.now.prev reference.0) }
-    ensures drift { IfOk result (λ table. AreWithinDrift table.value table.prev reference.0 table.level table.drift) }
+    ensures table { IfOk result (λ table.
+        table ≡ chain_of flows.now.value flows.now.prev reference.0) }
+    ensures drift { IfOk result (λ table.
+        AreWithinDrift table.value table.prev reference.0 table.level table.drift) }
     ensures adds_up { IfOk result DoQuartersAddUp }
-    ensures years { IfOk result (λ table. (length table.value ≡ year_count (length flows.now.value)) × (length table.prev ≡ year_count (length flows.now.value)) × (length table.level ≡ year_count (length flows.now.value)) × (length table.drift ≡ year_count (length flows.now.value))) }
+    ensures years { IfOk result (λ table.
+        (length table.value ≡ year_count (length flows.now.value))
+        × (length table.prev ≡ year_count (length flows.now.value))
+        × (length table.level ≡ year_count (length flows.now.value))
+        × (length table.drift ≡ year_count (length flows.now.value))) }
     ensures quarters { IfOk result (λ table. length table.quarter ≡ length flows.now.value) }
 {
     let value = years::years(alloc, flows.value.as_slice())?;
@@ -83,6 +96,3 @@ pub fn chain(alloc: Global, flows: &NodeFlows, reference: Year) -> Result<ChainT
         quarter: Cells::from(quarter),
     })
 }
-
-#[cfg(test)]
-mod tests;

@@ -1,10 +1,12 @@
-ghost use Rattle.std.specs.Prelude.{◌≡◌, ◌≤◌, ◌<◌, ◌^◌, ◌*◌, ◌+◌, ◌/◌, ◌%◌, ℕ, pos, ◌+ℤ◌, ◌*ℤ◌, ◌<ℤ◌, ◌≤ℤ◌, unsigned_abs, length, IfOk, map, [], ◌∷◌, ◌⊎◌};
+ghost use Rattle.std.specs.Prelude.{◌≡◌, ◌≤◌, ◌<◌, ◌^◌, ◌*◌, ◌+◌, ◌/◌, ◌%◌, ℕ, pos, ◌+ℤ◌, ◌*ℤ◌, ◌<ℤ◌, ◌≤ℤ◌};
+ghost use Rattle.std.specs.Prelude.{unsigned_abs, length, IfOk, map, [], ◌∷◌, ◌⊎◌};
 ghost use Rattle.ratio_arith.specs.Division.{round_of};
 ghost use Rattle.sum_rounding.specs.ShareOut.{share_of, sum_of};
 ghost use Rattle.price_base.specs.Cells.{cell_at, total};
 ghost use Rattle.price_base.specs.declared.Cell.TheVariants.{Value};
 ghost use Rattle.annual_overlap.specs.Years.{IsSizedCell, number_or, quarters_in};
-ghost use Rattle.annual_overlap.specs.Quarters.{complete_year, first_mark, rate_of, rate_at, quarter_within, linked_quarter, chained_year, chained_in, chained_at, chained_of};
+ghost use Rattle.annual_overlap.specs.Quarters.{complete_year, first_mark, rate_of, rate_at, quarter_within};
+ghost use Rattle.annual_overlap.specs.Quarters.{linked_quarter, chained_year, chained_in, chained_at, chained_of};
 ghost use Rattle.annual_overlap.specs.Sizes.{IsSmallRate, IsTotalOf};
 
 use crate::Ratio;
@@ -148,7 +150,8 @@ fn linked(rate: Ratio, quarter: Cell) -> Cell
     }
 }
 
-/// The four quarters of a complete year with a level and a volume above zero: the level shared out in proportion to their volumes.
+/// The four quarters of a complete year with a level and a volume above zero: the level shared out in proportion to
+/// their volumes.
 fn shared(
     level: i128,
     volume: i128,
@@ -165,7 +168,9 @@ fn shared(
     requires third { IsSizedCell (512 * 10 ^ 15) third }
     requires fourth { IsSizedCell (512 * 10 ^ 15) fourth }
     requires adds_up { total (first ∷ second ∷ third ∷ fourth ∷ []) ≡ volume }
-    ensures quarters { result ≡ map Value (share_of (map (λ quarter. level *ℤ number_or (pos 0) quarter) (first ∷ second ∷ third ∷ fourth ∷ [])) volume level) }
+    ensures quarters { result ≡ map Value (share_of
+        (map (λ quarter. level *ℤ number_or (pos 0) quarter) (first ∷ second ∷ third ∷ fourth ∷ []))
+        volume level) }
 {
     values_of(&share_four(
         part_of(level, first),
@@ -243,7 +248,8 @@ fn chained(year: LinkedYear, first: Cell, second: Cell, third: Cell, fourth: Cel
     requires third { IsSizedCell (512 * 10 ^ 15) third }
     requires fourth { IsSizedCell (512 * 10 ^ 15) fourth }
     requires adds_up { IsTotalOf year.volume (first ∷ second ∷ third ∷ fourth ∷ []) }
-    ensures quarters { result ≡ chained_year year.value year.volume year.level year.rate (first ∷ second ∷ third ∷ fourth ∷ []) }
+    ensures quarters { result ≡ chained_year year.value year.volume year.level year.rate
+        (first ∷ second ∷ third ∷ fourth ∷ []) }
 {
     match (year.value, year.volume) {
         (Cell::Value(_), Cell::Value(volume)) => {
@@ -298,8 +304,10 @@ fn quarters_for(
     requires quarters { (k : ℕ) → IsSizedCell (512 * 10 ^ 15) (cell_at quarters.now k) }
     requires totals { (k : ℕ) → IsTotalOf (cell_at volumes.now k) (quarters_in quarters.now k) }
     requires quarter { quarter < 512 }
-    requires kept { (quarter % 4 ≡ 0) ⊎ (kept ≡ chained_in values.now volumes.now levels.now quarters.now (quarter / 4)) }
-    ensures quarters { result ≡ chained_in values.now volumes.now levels.now quarters.now (quarter / 4) }
+    requires kept { (quarter % 4 ≡ 0)
+        ⊎ (kept ≡ chained_in values.now volumes.now levels.now quarters.now (quarter / 4)) }
+    ensures quarters { result
+        ≡ chained_in values.now volumes.now levels.now quarters.now (quarter / 4) }
 {
     if quarter.is_multiple_of(4) {
         chained_quarters(values, volumes, levels, quarters, quarter / 4)
@@ -344,7 +352,8 @@ pub fn chained_cells(
     requires quarters { (k : ℕ) → IsSizedCell (512 * 10 ^ 15) (cell_at quarters.now k) }
     requires totals { (k : ℕ) → IsTotalOf (cell_at volumes.now k) (quarters_in quarters.now k) }
     requires count { length quarters.now ≤ 512 }
-    ensures quarters { IfOk result (λ cells. cells.items ≡ chained_of values.now volumes.now levels.now quarters.now) }
+    ensures quarters { IfOk result (λ cells.
+        cells.items ≡ chained_of values.now volumes.now levels.now quarters.now) }
 {
     let mut cells = vec![in alloc; Cell::Missing; quarters.len()]?;
     write_quarters(values, volumes, levels, quarters, &mut cells);

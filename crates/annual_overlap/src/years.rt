@@ -92,7 +92,8 @@ fn has_range(first: Cell, second: Cell, third: Cell, fourth: Cell) -> bool
         || matches!(fourth, Cell::Range)
 }
 
-/// The cell of a year with these quarters: the first mark among them in the order missing, no base, range, or else their sum.
+/// The cell of a year with these quarters: the first mark among them in the order missing, no base, range, or else
+/// their sum.
 fn sum_cell(first: Cell, second: Cell, third: Cell, fourth: Cell) -> Cell
     requires first { IsSizedCell (10 ^ 27) first }
     requires second { IsSizedCell (10 ^ 27) second }
@@ -139,7 +140,8 @@ fn write_years(cells: &[Cell], out: &mut [Cell])
     }
 }
 
-/// The cells of the years that have one of these quarters, each the sum of the year's four quarters or the first mark among them.
+/// The cells of the years that have one of these quarters, each the sum of the year's four quarters or the first mark
+/// among them.
 pub fn years(alloc: Global, cells: &[Cell]) -> Result<Vec<Cell>, Memory>
     requires sizes { (k : ℕ) → IsSizedCell (10 ^ 27) (cell_at cells.now k) }
     requires quarters { length cells.now ≤ 512 }

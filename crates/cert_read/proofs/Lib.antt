@@ -1,3 +1,4 @@
+pub mod Places
 pub mod Records
 pub mod Ranges
 pub mod Outcomes

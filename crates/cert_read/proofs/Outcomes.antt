@@ -1,6 +1,6 @@
 -- What one more line makes of the outcome.
 use Rattle.std.proofs.Common.{◌≡◌, ℕ, Bool, true, false, cond, List, ◌∷◌, map, Option, Some, None, option_map, Result, Ok, Err, refl, sym, ap, ◌∙◌}
-use Rattle.std.specs.Prelude.{IfOk}
+use Rattle.std.specs.Prelude.{IfOk, IfErr}
 use Rattle.line_form.specs.Lines.{TextLine, next_number}
 use Rattle.cert_read.specs.declared.fault.CertFault.{CertFault}
 use Rattle.cert_read.specs.declared.fault.CertFault.TheVariants as fault
@@ -52,3 +52,10 @@ pub outcome_on : (r : Result Progress CertFault) (p : Progress) (line : TextLine
     → IfOk r (λ q. (follows p.content s ≡ true) × (q ≡ with_statement p s line.number)) → IfOk r (λ q. outcome p (line ∷ rest) ≡ outcome q rest)
 outcome_on (Ok q) p line s rest e says h = outcome_taken p line s rest e says h.0 ∙ ap (λ (t : Progress). outcome t rest) (sym h.1)
 outcome_on (Err d) p line s rest e says h = tt
+
+-- and where it is a fault, so is its line
+pub outcome_off : (r : Result Progress CertFault) (p : Progress) (line : TextLine) (s : Statement) (rest : List TextLine) →
+    is_passed_over line ≡ false → option_map cut_line (said line) ≡ Some s →
+    IfErr r (λ e. IsEntryFault e (follows p.content s) line.number) → IfErr r (λ e. Fails e (outcome p (line ∷ rest)))
+outcome_off (Ok q) p line s rest e says h = tt
+outcome_off (Err d) p line s rest e says h = fault_of_entry d p line s rest e says h

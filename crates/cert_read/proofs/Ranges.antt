@@ -1,8 +1,8 @@
 -- A line in range keeps all numbers in range.
-use Rattle.std.proofs.Common.{◌≡◌, ℕ, ◌+◌, ◌<◌, ◌≤◌, ◌^◌, ℤ, pos, ◌≤ℤ◌, Bool, true, false, ◌&&◌, cond, eqb, leb, ltb, List, [], ◌∷◌, ◌++◌, length, get_or, EachIndex, unsigned_abs, Option, Some, None, refl, sym, subst, ◌∙◌, inl, inr, arith}
+use Rattle.std.proofs.Common.{◌≡◌, ℕ, ◌+◌, ◌*◌, ◌<◌, ◌≤◌, ◌^◌, ℤ, pos, ◌≤ℤ◌, Bool, true, false, ◌&&◌, cond, eqb, leb, ltb, List, [], ◌∷◌, ◌++◌, length, get_or, EachIndex, unsigned_abs, Option, Some, None, refl, sym, subst, ◌∙◌, inl, inr, arith}
 use Rattle.std.proofs.lemmas.Bool.{cases_lt, eqb-true, leb-true, ltb-true}
 use Rattle.std.proofs.lemmas.Int.{ints}
-use Rattle.std.proofs.lemmas.List.{length-append}
+use Rattle.std.proofs.lemmas.List.{length-append, nil_from_length}
 use Rattle.std.proofs.Math.ListN.{get_or-append}
 use Rattle.std.proofs.Math.Seq.{get_or-append_seam}
 use Rattle.denton_parts.specs.Year.{IsBenchmark, IsMultiplier}
@@ -39,7 +39,15 @@ no_indicators d order few = zero_unless (length d.ind) (λ some. let three : 3 �
 
 -- without an indicator no benchmark does
 pub no_benchmarks : (d : Content) → IsInOrder d → length d.ind ≡ 0 → length d.bench ≡ 0
-no_benchmarks d order none = let whole = order.benchmarks in omega arith
+no_benchmarks d order none =
+    zero_unless (length d.bench) (λ some.
+    let same = order.placed in
+    let whole : 4 * get_or d.places 0 0 + 4 ≤ length d.ind = order.benchmarks.whole_years 0 0 (omega arith) in
+    omega arith)
+
+-- nor a place of one
+pub no_places : (d : Content) → IsInOrder d → length d.bench ≡ 0 → d.places ≡ []
+no_places d order none = let same = order.placed in nil_from_length d.places (omega arith)
 
 -- without a benchmark no value, no multiplier and no line at the end do
 pub no_values : (d : Content) → IsInOrder d → length d.bench ≡ 0 → length d.x ≡ 0

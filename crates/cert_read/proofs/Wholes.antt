@@ -4,6 +4,7 @@ use Rattle.std.proofs.lemmas.Int.{ints}
 use Rattle.std.proofs.lemmas.List.{length-map}
 use Rattle.std.proofs.Math.ListN.{get_or-map}
 use Rattle.dual_cert.specs.declared.document.CertDoc.{CertDoc}
+use Rattle.denton_parts.specs.Years.{ArePlaces}
 use Rattle.dual_cert.specs.Document.{IsQuarterValue}
 use Rattle.line_form.specs.Lines.{next_number, lines_of}
 use Rattle.cert_read.specs.Content.{nothing, spelled}
@@ -22,9 +23,10 @@ whole_of doc =
       scale_high = omega (arith, ints, k.quarters.scale_in_range);
       first_start = k.first_start;
       last_start = k.last_start;
-      most = omega (arith, k.quarters.most);
+      most = omega (arith, k.few);
       some_year = k.some_year;
-      whole_years = omega (arith, k.whole_years);
+      placed = k.placed;
+      whole_years = subst (λ (n : ℕ). ArePlaces n doc.years.items) (sym count) k.whole_years;
       same_length = omega (arith, k.quarters.same_length);
       joints = k.joints;
       ind_low = λ t inside. let within : t < length doc.ind.items = omega arith in let one : 1 ≤ get_or doc.ind.items t 0 = (k.quarters.each_indicator t within).0 in subst (λ (z : ℤ). pos 1 ≤ℤ z) (sym (get_or-map pos doc.ind.items t 0)) (omega (arith, ints));

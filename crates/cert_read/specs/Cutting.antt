@@ -2,7 +2,8 @@
 use Rattle.std.specs.Prelude.{ℕ, ◌^◌, ℤ, pos, List, option_map, Result}
 use Rattle.line_form.specs.Number.{cut_to}
 use Rattle.cert_read.specs.declared.fault.CertFault.{CertFault}
-use Rattle.cert_read.specs.Statement.{Statement, certificate_line, scale_line, start_line, indicator_line, benchmark_line, value_line, multiplier_line, gap_line, end_line}
+use Rattle.cert_read.specs.Statement.{Statement, certificate_line, scale_line, start_line, indicator_line}
+use Rattle.cert_read.specs.Statement.{benchmark_line, value_line, multiplier_line, gap_line, end_line}
 use Rattle.cert_read.specs.Content.{Content, nothing}
 use Rattle.cert_read.specs.Reading.{Placed, whole_from, out_from, judged}
 

@@ -27,7 +27,11 @@ outcome p lines =
 
 -- the progress with what the line of a number says
 abbrev pub with_statement : Progress → Statement → ℕ → Progress
-with_statement p s number = record { content = with_line p.content s; late = first_noted p.late (if is_in_range p.content s then None else Some number); last = number }
+with_statement p s number = record {
+  content = with_line p.content s;
+  late = first_noted p.late (if is_in_range p.content s then None else Some number);
+  last = number;
+}
 
 -- a fault at the line of a number: it may not follow, or want of memory
 abbrev pub IsEntryFault : CertFault → Bool → ℕ → Type 0

@@ -1,5 +1,6 @@
 -- The document of a certificate's text, or the first line at fault.
-use Rattle.std.specs.Prelude.{◌≡◌, ℕ, pos, Bool, true, false, ◌==◌, if◌then◌else◌, List, [], ◌∷◌, map, Option, Some, None, option_and_then, Result, Ok, Err}
+use Rattle.std.specs.Prelude.{◌≡◌, ℕ, pos, Bool, true, false, ◌==◌, if◌then◌else◌, List, [], ◌∷◌, map, Option, Some}
+use Rattle.std.specs.Prelude.{None, option_and_then, Result, Ok, Err}
 use Rattle.line_form.specs.Lines.{TextLine, lines_of, next_number, is_passed_over}
 use Rattle.line_form.specs.Fields.{record_of}
 use Rattle.dual_cert.specs.declared.document.CertDoc.{CertDoc}
@@ -20,7 +21,9 @@ pub record Placed : Type 0 where
 -- the lines that aren't passed over
 abbrev pub kept : List TextLine → List Placed
 kept [] = []
-kept (line ∷ lines) = if is_passed_over line then kept lines else record { number = line.number; says = said line } ∷ kept lines
+kept (line ∷ lines) =
+    if is_passed_over line then kept lines
+    else record { number = line.number; says = said line } ∷ kept lines
 
 -- the number of the last line behind a line of a number
 abbrev pub last_number : ℕ → List TextLine → ℕ
@@ -42,7 +45,8 @@ abbrev pub is_kept : Content → Option Statement → Bool
 is_kept d None = true
 is_kept d (Some s) = is_in_range d s
 
--- the content of all lines, or the number of the first that isn't the one the form asks for; `missing` is the number of a missing line
+-- the content of all lines, or the number of the first that isn't the one the form asks for; `missing` is the number
+-- of a missing line
 abbrev pub whole_from : ℕ → Content → List Placed → Result Content ℕ
 whole_from missing d [] = if d.tail == 2 then Ok d else Err missing
 whole_from missing d (p ∷ ps) = if fits d p.says then whole_from missing (grown d p.says) ps else Err p.number
@@ -60,7 +64,8 @@ judged (Ok d) None = Ok d
 
 -- what a text's lines say, or their first fault
 unfoldable pub read_lines : List TextLine → Result Content CertFault
-read_lines lines = judged (whole_from (next_number (last_number 0 lines)) nothing (kept lines)) (out_from nothing (kept lines))
+read_lines lines =
+    judged (whole_from (next_number (last_number 0 lines)) nothing (kept lines)) (out_from nothing (kept lines))
 
 -- what a certificate's text says, or its first fault
 unfoldable pub reading : List ℕ → Result Content CertFault
@@ -68,7 +73,20 @@ reading text = read_lines (lines_of text)
 
 -- the content of a document
 abbrev pub content_of : CertDoc → Content
-content_of doc = record { heads = 3; name = doc.name.items; front = pos doc.front; scale = pos doc.scale; start = doc.start; ind = map pos doc.ind.items; bench = doc.bench.items; x = doc.x.items; u = doc.u.items; gap = doc.gap; tail = 2 }
+content_of doc = record {
+  heads = 3;
+  name = doc.name.items;
+  front = pos doc.front;
+  scale = pos doc.scale;
+  start = doc.start;
+  ind = map pos doc.ind.items;
+  places = doc.years.items;
+  bench = doc.bench.items;
+  x = doc.x.items;
+  u = doc.u.items;
+  gap = doc.gap;
+  tail = 2;
+}
 
 -- an error is what reading gives, or want of memory
 abbrev pub Fails : CertFault → Result Content CertFault → Type 0

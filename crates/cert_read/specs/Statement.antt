@@ -7,7 +7,8 @@ use Rattle.cert_read.specs.declared.entry.NamedQuarter.{NamedQuarter}
 use Rattle.cert_read.specs.declared.entry.Entry.{Entry}
 use Rattle.cert_read.specs.declared.entry.Entry.TheVariants as entry
 
--- what a line says: the leaf's name and the front, the scale, the start year, an indicator, a benchmark, a value, a multiplier, the gap, or the end
+-- what a line says: the leaf's name and the front, the scale, the start year, an indicator, a benchmark, a value, a
+-- multiplier, the gap, or the end
 pub data Statement : Type 0 where
   certificate_line : (name : List ℕ) (front : ℤ) → Statement
   scale_line : (k : ℤ) → Statement
@@ -48,7 +49,8 @@ periodic word period number =
 -- a line of a word, a name or a period, and a number
 abbrev pub dated : List ℕ → List ℕ → List ℕ → Option Statement
 dated word field number =
-    if bytes_eq word (codes "cert") then option_map (certificate_line field) (number_of number) else periodic word field number
+    if bytes_eq word (codes "cert") then option_map (certificate_line field) (number_of number)
+    else periodic word field number
 
 -- what a record says; none where it is no line of a certificate
 unfoldable pub statement_of : List (List ℕ) → Option Statement

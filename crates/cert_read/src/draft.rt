@@ -1,16 +1,26 @@
 //! What the lines of a certificate say so far.
 
-ghost use Rattle.std.specs.Prelude.{◌≡◌, ◌==◌, ◌≤◌, ◌^◌, ◌<◌, ◌+◌, ◌*◌, ◌/◌, ◌∷◌, List, None, pos, ℤ, ◌≤ℤ◌, length, IsTrue, IfOk, IfErr, OnOk, unsigned_abs, slice_index_or};
+ghost use Rattle.std.specs.Prelude.{◌≡◌, ◌==◌, ◌≤◌, ◌^◌, ◌<◌, ◌+◌, ◌*◌, ◌/◌, ◌∷◌, List, None, pos, ℤ, ◌≤ℤ◌, length};
+ghost use Rattle.std.specs.Prelude.{map, IsTrue, IfOk, IfErr, OnOk, unsigned_abs, slice_index_or};
 ghost use Rattle.period_keys.specs.Period.{Named};
 ghost use Rattle.line_form.specs.Lines.{TextLine, line_view};
 ghost use Rattle.cert_read.specs.Statement.{entry_view, named_view};
-ghost use Rattle.cert_read.specs.Content.{Content, nothing, follows, with_line, is_in_range, is_quarter as is_quarter_at, is_between as is_between_of, IsInOrder, HasRanges};
+ghost use Rattle.cert_read.specs.Content.{Content, nothing, follows, with_line, is_in_range};
+ghost use Rattle.cert_read.specs.Content.{is_quarter as is_quarter_at, is_year_behind as is_behind};
+ghost use Rattle.cert_read.specs.Content.{place_behind as behind, is_between as is_between_of, IsInOrder, HasRanges};
 
 use crate::entry::{Entry, NamedQuarter};
 use line_form::is_name;
 use qna_base::Memory;
 use std::alloc::Global;
 use std::marker::Model;
+
+/// A benchmark and the place of its year, counted from the start year.
+#[derive(Clone, Copy, Debug, PartialEq, Eq)]
+pub(crate) struct DatedBenchmark {
+    pub(crate) place: u16,
+    pub(crate) value: i128,
+}
 
 /// What the lines so far say, each number as it stands.
 #[derive(Drop)]
@@ -22,7 +32,7 @@ pub(crate) struct Draft {
     pub(crate) scale: i128,
     pub(crate) start: u16,
     pub(crate) ind: Vec<i128>,
-    pub(crate) bench: Vec<i128>,
+    pub(crate) bench: Vec<DatedBenchmark>,
     pub(crate) x: Vec<i128>,
     pub(crate) u: Vec<i128>,
     pub(crate) gap: i128,
@@ -31,13 +41,40 @@ pub(crate) struct Draft {
 }
 
 impl Model for Draft {
+    ghost use Rattle.std.specs.Prelude.{map};
     ghost use Rattle.cert_read.specs.Content.{Content, IsInOrder};
 
     ghost Value = { Content };
 
-    ghost view = { λ d. record { heads = d.heads; name = d.name.items; front = d.front; scale = d.scale; start = d.start; ind = d.ind.items; bench = d.bench.items; x = d.x.items; u = d.u.items; gap = d.gap; tail = d.tail } };
+    ghost view = { λ d. record {
+      heads = d.heads;
+      name = d.name.items;
+      front = d.front;
+      scale = d.scale;
+      start = d.start;
+      ind = d.ind.items;
+      places = map (λ b. b.place) d.bench.items;
+      bench = map (λ b. b.value) d.bench.items;
+      x = d.x.items;
+      u = d.u.items;
+      gap = d.gap;
+      tail = d.tail;
+    } };
 
-    ghost invariant = { λ d. IsInOrder (record { heads = d.heads; name = d.name.items; front = d.front; scale = d.scale; start = d.start; ind = d.ind.items; bench = d.bench.items; x = d.x.items; u = d.u.items; gap = d.gap; tail = d.tail }) };
+    ghost invariant = { λ d. IsInOrder (record {
+      heads = d.heads;
+      name = d.name.items;
+      front = d.front;
+      scale = d.scale;
+      start = d.start;
+      ind = d.ind.items;
+      places = map (λ b. b.place) d.bench.items;
+      bench = map (λ b. b.value) d.bench.items;
+      x = d.x.items;
+      u = d.u.items;
+      gap = d.gap;
+      tail = d.tail;
+    }) };
 }
 
 impl Draft {
@@ -74,9 +111,7 @@ impl Draft {
                     && is_quarter(self.start, self.ind.len(), *quarter)
             }
             Entry::Benchmark(year, _) => {
-                self.x.is_empty()
-                    && self.bench.len() < self.ind.len() / 4
-                    && is_year(self.start, self.bench.len(), *year)
+                self.x.is_empty() && is_year_behind(self.start, &self.bench, self.ind.len(), *year)
             }
             Entry::Value(quarter, _) => {
                 self.bench.len() >= 1
@@ -86,7 +121,7 @@ impl Draft {
             Entry::Multiplier(year, _) => {
                 self.x.len() == self.ind.len()
                     && self.u.len() + 1 < self.bench.len()
-                    && is_year(self.start, self.u.len(), *year)
+                    && is_year(self.start, self.bench[self.u.len()].place, *year)
             }
             Entry::Gap(_) => {
                 self.tail == 0
@@ -142,7 +177,10 @@ impl Draft {
                 self.start = start;
             }
             Entry::Indicator(_, value) => self.ind.push(value)?,
-            Entry::Benchmark(_, value) => self.bench.push(value)?,
+            Entry::Benchmark(year, value) => {
+                let place = year - self.start;
+                self.bench.push(DatedBenchmark { place, value })?;
+            }
             Entry::Value(_, value) => self.x.push(value)?,
             Entry::Multiplier(_, value) => self.u.push(value)?,
             Entry::Gap(value) => {
@@ -162,12 +200,30 @@ fn is_quarter(start: u16, place: usize, quarter: NamedQuarter) -> bool
     quarter.year as usize == start as usize + place / 4 && quarter.number as usize == place % 4 + 1
 }
 
+/// Whether a year is behind those of the benchmarks, and has its four quarters among so many.
+fn is_year_behind(start: u16, bench: &[DatedBenchmark], quarters: usize, year: u16) -> bool
+    ensures { result ≡ is_behind start (map (λ b. b.place) bench.now) quarters year }
+{
+    start as usize + place_behind(bench) <= year as usize
+        && 4 * (year as usize - start as usize) + 4 <= quarters
+}
+
+/// The first place behind those of the benchmarks.
+fn place_behind(bench: &[DatedBenchmark]) -> usize
+    ensures value { result ≡ behind 0 (map (λ b. b.place) bench.now) }
+    ensures most { result ≤ 65536 }
+{
+    match bench.last() {
+        Some(last) => last.place as usize + 1,
+        None => 0,
+    }
+}
+
 /// Whether a year is the one at a place, counted from a start year.
-fn is_year(start: u16, place: usize, year: u16) -> bool
-    requires { place < 2 ^ 63 }
+fn is_year(start: u16, place: u16, year: u16) -> bool
     ensures { result ≡ (year == start + place) }
 {
-    year as usize == start as usize + place
+    year as usize == start as usize + place as usize
 }
 
 /// Whether a number lies between two.

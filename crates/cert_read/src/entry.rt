@@ -39,7 +39,8 @@ pub(crate) enum Entry {
 /// What a record says, its number cut; none where it is no line of a certificate.
 #[tactic(auto, unfolding(crate::specs::Statement::statement_of), using(crate::proofs::Records::one_field, crate::proofs::Records::two_fields, crate::proofs::Records::three_fields, crate::proofs::Records::other_fields))]
 pub(crate) fn entry_of(alloc: Global, fields: &Fields) -> Result<Option<Entry>, Memory>
-    ensures { IfOk result (λ e. option_map entry_view e ≡ option_map cut_line (statement_of fields.now)) }
+    ensures { IfOk result (λ e.
+        option_map entry_view e ≡ option_map cut_line (statement_of fields.now)) }
 {
     match fields.len() {
         1 => Ok(single_entry(fields.get(0))),

@@ -12,6 +12,3 @@ mod reading;
 pub use fault::CertFault;
 pub use laws::{cut_is_past_ranges, cutting_changes_nothing, read_is_spelled, spelled_is_read};
 pub use reading::read_cert;
-
-#[cfg(test)]
-mod tests;

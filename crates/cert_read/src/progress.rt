@@ -50,8 +50,10 @@ impl Progress {
     /// Takes the next line.
     #[tactic(auto, using(crate::proofs::Outcomes::outcome_past, crate::proofs::Outcomes::outcome_taken, crate::proofs::Outcomes::outcome_strange, crate::proofs::Outcomes::fault_of_entry))]
     pub(crate) fn take(self, alloc: Global, line: &Line) -> Result<Progress, CertFault>
-        ensures goes_on { (rest : List TextLine) → IfOk result (λ p. outcome self (line_view line.now ∷ rest) ≡ outcome p rest) }
-        ensures fault { (rest : List TextLine) → IfErr result (λ e. Fails e (outcome self (line_view line.now ∷ rest))) }
+        ensures goes_on { (rest : List TextLine) → IfOk result (λ p.
+            outcome self (line_view line.now ∷ rest) ≡ outcome p rest) }
+        ensures fault { (rest : List TextLine) → IfErr result (λ e.
+            Fails e (outcome self (line_view line.now ∷ rest))) }
     {
         if is_passed_over(line) {
             return Ok(self.past(line.number));
@@ -76,8 +78,10 @@ impl Progress {
     /// Takes what the line of a number says.
     #[tactic(auto, using(crate::proofs::Ranges::ranges_more))]
     fn with_entry(self, entry: Entry, number: u64) -> Result<Progress, CertFault>
-        ensures taken { IfOk result (λ p. (follows self.content (entry_view entry) ≡ true) × (p ≡ with_statement self (entry_view entry) number)) }
-        ensures fault { IfErr result (λ e. IsEntryFault e (follows self.content (entry_view entry)) number) }
+        ensures taken { IfOk result (λ p. (follows self.content (entry_view entry) ≡ true)
+            × (p ≡ with_statement self (entry_view entry) number)) }
+        ensures fault { IfErr result (λ e.
+            IsEntryFault e (follows self.content (entry_view entry)) number) }
     {
         if !self.draft.admits(&entry) {
             return Err(CertFault::Shape(number));
@@ -95,7 +99,8 @@ impl Progress {
     /// The first line out of range, where the line of a number follows.
     fn late_with(&self, entry: &Entry, number: u64) -> Option<u64>
         requires { IsTrue (follows self.now.content (entry_view entry.now)) }
-        ensures { result ≡ first_noted self.now.late (if is_in_range self.now.content (entry_view entry.now) then None else Some number) }
+        ensures { result ≡ first_noted self.now.late
+            (if is_in_range self.now.content (entry_view entry.now) then None else Some number) }
     {
         if self.late.is_some() || self.draft.ranges_over(entry) {
             return self.late;

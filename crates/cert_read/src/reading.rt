@@ -18,11 +18,13 @@ use line_form::{Line, LineFault, Lines, fields};
 use qna_base::Memory;
 use std::alloc::Global;
 
-/// Reads a certificate: the leaf's name and the front, the scale, the start year, the indicators, the benchmarks, the values, the multipliers, the gap
-/// and the end, one line each number. Empty lines and lines that begin with `#` are passed over, and counted.
+/// Reads a certificate: the leaf's name and the front, the scale, the start year, the indicators, the benchmarks, the
+/// values, the multipliers, the gap and the end, one line each number. The years of the benchmarks rise, and each has
+/// its four quarters; a multiplier stands at the first of the two benchmarked years that it is between. Empty lines and
+/// lines that begin with `#` are passed over, and counted.
 ///
-/// `Shape` is the answer exactly where the form is broken, and `Range` exactly where it is kept and a number is out of range, each with the first such
-/// line. The form is this product's own.
+/// `Shape` is the answer exactly where the form is broken, and `Range` exactly where it is kept and a number is out of
+/// range, each with the first such line. The form is this product's own.
 pub fn read_cert(alloc: Global, text: &[u8]) -> Result<CertDoc, CertFault>
     ensures exact { Gives content_of result (reading text.now) }
 {

@@ -10,6 +10,3 @@ mod words;
 pub use batch::{BatchWords, batch_words, check_words};
 pub use live::{DeskNames, LiveWords, live_words};
 pub use words::{PlainWords, plain_words};
-
-#[cfg(test)]
-mod tests;

@@ -20,8 +20,8 @@ abbrev pub AreFirstPasses : LockName → PlanShape → ℕ → List Known → Ty
 AreFirstPasses lock plan desks passes =
     (workers : ℕ) × (workers ≤ 16) × (passes ≡ first_passes lock plan desks workers)
 
--- the desks from one on were served over a journal, and ended so; a desk without an end was left as it was, and there are
--- no more ends than desks
+-- the desks from one on were served over a journal, and ended so; a desk without an end was left as it was, and there
+-- are no more ends than desks
 abbrev pub AreServed : PlanShape → List Sent → ℕ → List Ends → List Ends → List DeskEnd → Type 0
 AreServed plan journal party [] [] [] = Unit {0}
 AreServed plan journal party [] [] (end ∷ ends) = ⊥

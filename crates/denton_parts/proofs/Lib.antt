@@ -1,8 +1,8 @@
 pub mod EndRatios
 pub mod LevelSum
 pub mod Machine
+pub mod Places
 pub mod Reach
-pub mod SameYears
 pub mod Scales
 pub mod Sizes
 pub mod Worked

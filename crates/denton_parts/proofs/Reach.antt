@@ -10,9 +10,8 @@ use Rattle.ratio_arith.proofs.Linear.{linear, literal_product}
 use Rattle.ratio_arith.proofs.Order.{size-*ℤ}
 use Rattle.ratio_arith.proofs.Ring.{same_by_ring, var, num, ◌⊕◌, ◌⊗◌}
 use Rattle.denton_parts.specs.Changes.{change_of}
-use Rattle.denton_parts.specs.Level.{floored_change, rises, level_of}
-use Rattle.denton_parts.specs.Year.{AreIndicators, IsMultiplier, year_sum}
-use Rattle.denton_parts.specs.declared.year.YearPart.{YearPart}
+use Rattle.denton_parts.specs.Level.{floored_change, rises, level_of, level_in, level_unit, ratio_floor}
+use Rattle.denton_parts.specs.Year.{BenchmarkedYear, AreIndicators, IsMultiplier, year_sum}
 use Rattle.denton_parts.proofs.Sizes.{weighed_within, rise_size}
 
 -- the floor of a change between two multipliers is within 10^15
@@ -80,13 +79,28 @@ value_within i sum k level value some positive small within near =
     omega arith
 
 -- what a year's levels are counted in is positive
-pub level_unit_positive : (k : ℕ) (year : YearPart) → pos 0 <ℤ (pos (10 ^ k) *ℤ pos (year_sum year.ind))
-level_unit_positive k year =
-    let are = year.indicators in
+pub level_unit_positive : (k : ℕ) (year : BenchmarkedYear) → AreIndicators year.indicators →
+    pos 0 <ℤ level_unit k year
+level_unit_positive k year are =
     let least : 1 ≤ 10 ^ k = one-le-pow k 10 (omega arith) in
-    let some : 1 ≤ year_sum year.ind = omega (arith, are.first.0) in
-    let positive : 1 * 1 ≤ 10 ^ k * year_sum year.ind = mul-le-mul least some in
+    let some : 1 ≤ year_sum year.indicators = omega (arith, are.first.0) in
+    let positive : 1 * 1 ≤ 10 ^ k * year_sum year.indicators = mul-le-mul least some in
     omega (arith, linear)
+
+-- the floor of a quarter's ratio is within 7 * 10^15
+pub ratio_within : (k : ℕ) (year : BenchmarkedYear) (left right : ℤ) (j : ℕ) → AreIndicators year.indicators →
+    IsMultiplier left → IsMultiplier right →
+    10 ^ k * unsigned_abs year.benchmark ≤ 10 ^ 13 * year_sum year.indicators →
+    unsigned_abs (ratio_floor k year left right j) ≤ 7 * 10 ^ 15
+ratio_within k year left right j are first second fits =
+    let within = level_within year.indicators year.benchmark k left right j are first second fits in
+    by (level_in k year left right j) (year_sum year.indicators) (omega (arith, are.first.0)) within
+  where
+    by : (level : ℤ) (sum : ℕ) → 1 ≤ sum → unsigned_abs level ≤ 7 * 10 ^ 15 * sum →
+        unsigned_abs (floor_of level (pos sum)) ≤ 7 * 10 ^ 15
+    by level sum some within =
+        floor_size level (pos sum) (7 * 10 ^ 15) (omega (arith, linear)) (omega (arith, linear))
+        (omega (arith, linear))
 
 -- at a scale of 10 or more a value of that reach is below 10^24
 pub value_small : (k i : ℕ) (value : ℤ) → 1 ≤ k → i ≤ 10 ^ 9 → 10 ^ k * unsigned_abs value ≤ 8 * 10 ^ 15 * i → unsigned_abs value < 10 ^ 24

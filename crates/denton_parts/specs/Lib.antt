@@ -4,6 +4,5 @@ pub mod Gap
 pub mod Level
 pub mod Ratios
 pub mod Scale
-pub mod Within
 pub mod Year
 pub mod Years

@@ -1,6 +1,8 @@
--- The objective of proportional benchmarking, and what it means to come within a gap of the best series (IMF Quarterly National Accounts Manual 2017, chapter 6; the common multiple and the gap are this product's own).
+-- The objective of proportional benchmarking, and what it means to come within a gap of the best series (IMF Quarterly
+-- National Accounts Manual 2017, chapter 6; the common multiple and the gap are this product's own).
 use Rattle.std.specs.Prelude.{◌≡◌, ℕ, ℤ, pos, ◌+ℤ◌, ◌-ℤ◌, ◌*ℤ◌, ◌≤ℤ◌, ◌<ℤ◌, List, [], ◌∷◌, length}
 use Rattle.denton_parts.specs.Benchmarks.{MeetsBenchmarks}
+use Rattle.denton_parts.specs.Year.{BenchmarkedYear}
 
 abbrev pub square : ℤ → ℤ
 square a = a *ℤ a
@@ -30,7 +32,11 @@ squared_changes (number ∷ numbers) = squared_changes_from number numbers
 abbrev pub objective : List ℤ → List ℤ → ℤ
 objective factors quarters = squared_changes (scaled_ratios factors quarters)
 
--- no series of fractions that meets the benchmarks has a sum of squared ratio changes smaller than that of `quarters` by more than gap/scale²: for every denominator n, every common multiple and every list of numerators
-abbrev pub IsWithinGap : List ℕ → List ℤ → List ℤ → ℤ → ℤ → Type 0
-IsWithinGap indicators benchmarks quarters gap scale =
-    (n whole : ℤ) (factors others : List ℤ) → pos 0 <ℤ n → pos 0 <ℤ whole → AreFactors whole indicators factors → length others ≡ length indicators → MeetsBenchmarks benchmarks n others → (square n *ℤ square scale *ℤ objective factors quarters) ≤ℤ (square scale *ℤ objective factors others +ℤ gap *ℤ square n *ℤ square whole)
+-- no series of fractions that meets the benchmarks of these years has a sum of squared ratio changes smaller than that
+-- of `quarters` by more than gap/scale²: for every denominator n, every common multiple and every list of numerators
+abbrev pub IsWithinGap : List ℕ → List BenchmarkedYear → List ℤ → ℤ → ℤ → Type 0
+IsWithinGap indicators years quarters gap scale =
+    (n whole : ℤ) (factors others : List ℤ) → pos 0 <ℤ n → pos 0 <ℤ whole → AreFactors whole indicators factors →
+    length others ≡ length indicators → MeetsBenchmarks years n others →
+    (square n *ℤ square scale *ℤ objective factors quarters)
+    ≤ℤ (square scale *ℤ objective factors others +ℤ gap *ℤ square n *ℤ square whole)

@@ -1,9 +1,10 @@
-//! One benchmarked year.
+//! The figures of one benchmarked year.
 
 ghost use Rattle.std.specs.Prelude.{◌≡◌, ◌≤◌, ◌<◌, ◌*◌, ◌^◌, pos, map};
 ghost use Rattle.denton_parts.specs.Year.{AreIndicators, IsBenchmark, sums_before, year_sum};
 
-/// One benchmarked year. Its numbers are in range and its sums are those of its indicators.
+/// The figures of one benchmarked year, wherever it stands. Its numbers are in range and its sums are those of its
+/// indicators.
 #[derive(Clone, Copy, Debug, PartialEq, Eq)]
 pub struct YearPart {
     /// the four quarters' indicators, each from 1 to 10^9

@@ -1,5 +1,7 @@
 pub mod Benchmarks
+pub mod Joints
 pub mod Pairs
+pub mod Rows
 pub mod Scaled
 pub mod Shares
 pub mod Steps

@@ -16,14 +16,17 @@ square_positive whole positive =
     omega (arith, linear)
 
 -- a share is from 0 to 1000
-pub share_bounds : (part whole : ℤ) → pos 1 ≤ℤ whole → pos 0 ≤ℤ part → part ≤ℤ whole → (pos 0 ≤ℤ thousandths part whole) × (thousandths part whole ≤ℤ pos 1000)
+pub share_bounds : (part whole : ℤ) → pos 1 ≤ℤ whole → pos 0 ≤ℤ part → part ≤ℤ whole →
+    (pos 0 ≤ℤ thousandths part whole) × (thousandths part whole ≤ℤ pos 1000)
 share_bounds part whole positive least most =
     let squares = square_within part whole (omega (arith, linear)) most in
     let some = square_nonneg part in
     let divisor = square_positive whole positive in
     let turned = *ℤ_comm (whole *ℤ whole) (pos 1000) in
     let none = *ℤ_comm (whole *ℤ whole) (pos 0) in
-    let size = ceil_size (pos 1000 *ℤ (part *ℤ part)) (whole *ℤ whole) 1000 divisor (omega (arith, linear, literal_product)) (omega (arith, linear, literal_product)) in
+    let size = ceil_size (pos 1000 *ℤ (part *ℤ part)) (whole *ℤ whole) 1000 divisor
+    (omega (arith, linear, literal_product)) (omega (arith, linear, literal_product)) in
     let ceiling = ceil_is (pos 1000 *ℤ (part *ℤ part)) (whole *ℤ whole) divisor in
-    let low = product_cancel (whole *ℤ whole) (pos 0) (thousandths part whole) divisor (omega (arith, linear, literal_product)) in
+    let low = product_cancel (whole *ℤ whole) (pos 0) (thousandths part whole) divisor
+    (omega (arith, linear, literal_product)) in
     (low, omega (arith, linear))

@@ -1,42 +1,57 @@
--- The multipliers: what a sweep over the joints between benchmarked years makes of them (this product's own way to the proportional solution of the IMF Quarterly National Accounts Manual 2017, chapter 6).
-use Rattle.std.specs.Prelude.{ℕ, zero, suc, ◌^◌, ℤ, pos, ◌+ℤ◌, ◌-ℤ◌, ◌*ℤ◌, neg_ℤ, ◌-◌, List, [], ◌∷◌, length, replicate, slice_index}
+-- The multipliers: what a sweep over the joints between benchmarked years makes of them (this product's own way to the
+-- proportional solution of the IMF Quarterly National Accounts Manual 2017, chapter 6).
+use Rattle.std.specs.Prelude.{◌≡◌, ◌⊎◌, ℕ, zero, suc, ◌+◌, ◌*◌, ◌^◌, ◌≤◌, ℤ, pos, ◌+ℤ◌, ◌-ℤ◌, ◌*ℤ◌, neg_ℤ, ◌-◌, List, [], ◌∷◌, length, replicate, slice_index}
 use Rattle.std.specs.Int.{int_min, int_max}
 use Rattle.ratio_arith.specs.Division.{floor_of, ceil_of}
-use Rattle.denton_parts.specs.Level.{level_of}
+use Rattle.denton_parts.specs.Level.{ratio_floor}
 use Rattle.denton_parts.specs.Ratios.{square}
-use Rattle.denton_parts.specs.Year.{year_sum, sums_before}
-use Rattle.denton_parts.specs.declared.year.YearPart.{YearPart}
+use Rattle.denton_parts.specs.Year.{BenchmarkedYear, year_sum, sums_before}
 
--- the floor of a quarter's benchmark-to-indicator ratio, in units of 1 over the scale 10^k
-abbrev pub ratio_floor : ℕ → YearPart → ℤ → ℤ → ℕ → ℤ
-ratio_floor k year left right quarter = floor_of (level_of year.ind year.bench k left right quarter) (pos (year_sum year.ind))
+-- how many changes lead from a year's last quarter to the first of the next benchmarked year: one, and four more for
+-- each year between them, which misses a benchmark
+abbrev pub width_of : BenchmarkedYear → BenchmarkedYear → ℕ
+width_of year next = 1 + 4 * (next.place - suc year.place)
 
--- the residual of the joint between two years: how far the step of the ratio from the one year's last quarter to the other's first is from the joint's multiplier
-abbrev pub residual_of : ℕ → YearPart → YearPart → ℤ → ℤ → ℤ → ℤ
-residual_of k year next before own after = ratio_floor k next own after 0 -ℤ ratio_floor k year before own 3 -ℤ own
+-- the residual of the joint between two years: how far the step of the ratio, from the one year's last quarter to the
+-- other's first, is from the joint's multiplier at each change between them
+abbrev pub residual_of : ℕ → BenchmarkedYear → BenchmarkedYear → ℤ → ℤ → ℤ → ℤ
+residual_of k year next before own after =
+    ratio_floor k next own after 0 -ℤ ratio_floor k year before own 3 -ℤ pos (width_of year next) *ℤ own
 
 -- a thousand times the square of a part over the square of its whole, rounded up
 abbrev pub thousandths : ℤ → ℤ → ℤ
 thousandths part whole = ceil_of (pos 1000 *ℤ square part) (square whole)
 
 -- the sum of the indicators before a quarter of the year
-abbrev pub before_quarter : YearPart → ℕ → ℤ
-before_quarter year quarter = pos (slice_index (sums_before year.ind) quarter)
+abbrev pub before_quarter : BenchmarkedYear → ℕ → ℤ
+before_quarter year quarter = pos (slice_index (sums_before year.indicators) quarter)
 
 -- the sum of the indicators of the year from a quarter on
-abbrev pub from_quarter : YearPart → ℕ → ℤ
-from_quarter year quarter = pos (year_sum year.ind) -ℤ before_quarter year quarter
+abbrev pub from_quarter : BenchmarkedYear → ℕ → ℤ
+from_quarter year quarter = pos (year_sum year.indicators) -ℤ before_quarter year quarter
+
+-- the thousandths of the year before a joint
+abbrev pub weight_behind : BenchmarkedYear → ℤ
+weight_behind year =
+    thousandths (before_quarter year 1) (pos (year_sum year.indicators))
+    +ℤ thousandths (before_quarter year 2) (pos (year_sum year.indicators))
+    +ℤ thousandths (before_quarter year 3) (pos (year_sum year.indicators))
+
+-- and of the year after it
+abbrev pub weight_ahead : BenchmarkedYear → ℤ
+weight_ahead next =
+    thousandths (from_quarter next 1) (pos (year_sum next.indicators))
+    +ℤ thousandths (from_quarter next 2) (pos (year_sum next.indicators))
+    +ℤ thousandths (from_quarter next 3) (pos (year_sum next.indicators))
 
 -- the weight of a joint, in thousandths: by how much its residual falls where its multiplier rises by 1
-abbrev pub weight_of : YearPart → YearPart → ℤ
-weight_of year next =
-    pos 1000 +ℤ
-    (thousandths (before_quarter year 1) (pos (year_sum year.ind)) +ℤ thousandths (before_quarter year 2) (pos (year_sum year.ind)) +ℤ thousandths (before_quarter year 3) (pos (year_sum year.ind))) +ℤ
-    (thousandths (from_quarter next 1) (pos (year_sum next.ind)) +ℤ thousandths (from_quarter next 2) (pos (year_sum next.ind)) +ℤ thousandths (from_quarter next 3) (pos (year_sum next.ind)))
+abbrev pub weight_of : BenchmarkedYear → BenchmarkedYear → ℤ
+weight_of year next = pos 1000 *ℤ pos (width_of year next) +ℤ weight_behind year +ℤ weight_ahead next
 
 -- the joint's multiplier moved by its residual over its weight
-abbrev pub moved_of : ℕ → YearPart → YearPart → ℤ → ℤ → ℤ → ℤ
-moved_of k year next before own after = own +ℤ floor_of (pos 1000 *ℤ residual_of k year next before own after) (weight_of year next)
+abbrev pub moved_of : ℕ → BenchmarkedYear → BenchmarkedYear → ℤ → ℤ → ℤ → ℤ
+moved_of k year next before own after =
+    own +ℤ floor_of (pos 1000 *ℤ residual_of k year next before own after) (weight_of year next)
 
 -- a multiplier cut to 10^15 where it passes that on either side
 abbrev pub cut_of : ℤ → ℤ
@@ -47,18 +62,21 @@ abbrev pub first_of : List ℤ → ℤ
 first_of [] = pos 0
 first_of (number ∷ numbers) = number
 
--- a sweep from a year on, with the multiplier before it: each joint's multiplier moves by the residual that the multipliers before the sweep leave
-abbrev pub sweep_from : ℕ → ℤ → YearPart → List YearPart → List ℤ → List ℤ
-sweep_from k before year (next ∷ years) (own ∷ multipliers) = cut_of (moved_of k year next before own (first_of multipliers)) ∷ sweep_from k own next years multipliers
+-- a sweep from a year on, with the multiplier before it: each joint's multiplier moves by the residual that the
+-- multipliers before the sweep leave
+abbrev pub sweep_from : ℕ → ℤ → BenchmarkedYear → List BenchmarkedYear → List ℤ → List ℤ
+sweep_from k before year (next ∷ years) (own ∷ multipliers) =
+    cut_of (moved_of k year next before own (first_of multipliers)) ∷ sweep_from k own next years multipliers
 sweep_from k before year _ _ = []
 
 -- a sweep over the joints of a run of years, with the multiplier before the first of them
-abbrev pub sweep_after : ℕ → ℤ → List YearPart → List ℤ → List ℤ
+abbrev pub sweep_after : ℕ → ℤ → List BenchmarkedYear → List ℤ → List ℤ
 sweep_after k before [] multipliers = []
 sweep_after k before (year ∷ years) multipliers = sweep_from k before year years multipliers
 
--- a sweep over all joints: the multipliers stand between the years, and 0 stands before the first and after the last
-unfoldable pub sweep_of : ℕ → List YearPart → List ℤ → List ℤ
+-- a sweep over all joints: the multipliers stand between the benchmarked years, and 0 stands before the first and after
+-- the last
+unfoldable pub sweep_of : ℕ → List BenchmarkedYear → List ℤ → List ℤ
 sweep_of k years multipliers = sweep_after k (pos 0) years multipliers
 
 -- a function applied a number of times
@@ -67,9 +85,18 @@ iterated zero f numbers = numbers
 iterated (suc n) f numbers = f (iterated n f numbers)
 
 -- no multiplier but 0 at any joint
-abbrev pub no_multipliers : List YearPart → List ℤ
+abbrev pub no_multipliers : List BenchmarkedYear → List ℤ
 no_multipliers years = replicate (length years - 1) (pos 0)
 
--- the multipliers: those after 192 sweeps from 0
-unfoldable pub multipliers_of : ℕ → List YearPart → List ℤ
-multipliers_of k years = iterated 192 (sweep_of k years) (no_multipliers years)
+-- the multipliers after so many sweeps from 0
+abbrev pub swept : ℕ → List BenchmarkedYear → ℕ → List ℤ
+swept k years sweeps = iterated sweeps (sweep_of k years) (no_multipliers years)
+
+-- the multipliers: those after 192 sweeps
+unfoldable pub multipliers_of : ℕ → List BenchmarkedYear → List ℤ
+multipliers_of k years = swept k years 192
+
+-- so many sweeps are enough: there are no more than 192, and after one that leaves the multipliers as they were none
+-- changes them
+abbrev pub IsEnough : ℕ → List BenchmarkedYear → ℕ → Type 0
+IsEnough k years sweeps = (sweeps ≡ 192) ⊎ ((1 ≤ sweeps) × (swept k years sweeps ≡ swept k years (sweeps - 1)))

@@ -1,66 +1,85 @@
-//! One joint between two benchmarked years: its weight, and how its multiplier moves.
+//! One joint between two benchmarked years: its width, its weight, and how its multiplier moves.
 
 ghost use Rattle.std.specs.Prelude.{◌≡◌, ◌≤◌, ◌<◌, ◌+◌, ◌*◌, ◌^◌, pos, ◌+ℤ◌, ◌-ℤ◌, ◌*ℤ◌, ◌≤ℤ◌, neg_ℤ, length, unsigned_abs, slice_index};
 ghost use Rattle.ratio_arith.specs.Division.{floor_of};
 ghost use Rattle.denton_parts.specs.Year.{IsMultiplier, year_sum};
-ghost use Rattle.denton_solve.specs.Conditions.{AreWeights};
-ghost use Rattle.denton_solve.specs.Sweeps.{weight_of, thousandths, before_quarter, from_quarter, cut_of};
+ghost use Rattle.denton_parts.specs.Years.{year_in, years_apart};
+ghost use Rattle.denton_solve.specs.Conditions.{AreFew, AreWeights};
+ghost use Rattle.denton_solve.specs.Sweeps.{thousandths, before_quarter, from_quarter, weight_behind, weight_ahead, cut_of};
 
 use denton_parts::YearPart;
 use ratio_arith::{ceil_div, floor_div};
-
-/// How many joints there can be.
-pub const JOINTS: usize = 127;
 
 const LEAST: i128 = -1_000_000_000_000_000;
 
 const MOST: i128 = 1_000_000_000_000_000;
 
-/// The weights of the joints, first to last.
-pub fn weights_of(parts: &[YearPart]) -> [i128; JOINTS]
+/// How many changes lead from the last quarter of a year to the first of the next benchmarked year, where so many years
+/// between them miss a benchmark.
+pub fn width(missing: u8) -> i128
+    requires { missing ≤ 126 }
+    ensures value { result ≡ pos (1 + 4 * missing) }
+    ensures least { pos 1 ≤ℤ result }
+    ensures most { result ≤ℤ pos 505 }
+{
+    1 + 4 * i128::from(missing)
+}
+
+/// Writes the weights of the joints, first to last.
+pub fn weigh(parts: &[YearPart], miss: &[u8], out: &mut [i128])
     requires most { length parts.now ≤ 128 }
-    ensures weights { AreWeights parts.now result }
+    requires between { length miss.now + 1 ≡ length parts.now }
+    requires few { AreFew miss.now }
+    requires room { length out.old ≡ length miss.now }
+    ensures { AreWeights (years_apart 0 miss.now parts.now) out.new }
 {
-    let mut weights = [1000; JOINTS];
-    for y in 1..parts.len() {
-        weights[y - 1] = weight(&parts[y - 1], &parts[y]);
+    for y in 0..miss.len() {
+        out[y] = joined(width(miss[y]), behind(&parts[y]), ahead(&parts[y + 1]));
     }
-    weights
 }
 
-// The weight of the joint between two years.
-fn weight(year: &YearPart, next: &YearPart) -> i128
-    ensures value { result ≡ weight_of year.now next.now }
-    ensures least { pos 1000 ≤ℤ result }
-{
-    joined(
-        three(
-            earlier(year, 1),
-            earlier(year, 2),
-            earlier(year, 3),
-            year.sum,
-        ),
-        three(rest(next, 1), rest(next, 2), rest(next, 3), next.sum),
-    )
-}
-
-// The thousandths of the two years, and a thousand for the multiplier itself.
-fn joined(behind: i128, ahead: i128) -> i128
+// The weight of a joint: a thousand for each change that it spans, and the thousandths of the two years.
+fn joined(width: i128, behind: i128, ahead: i128) -> i128
+    requires least_width { pos 1 ≤ℤ width }
+    requires most_width { width ≤ℤ pos 505 }
     requires behind { pos 0 ≤ℤ behind }
     requires ahead { pos 0 ≤ℤ ahead }
     requires behind_most { behind ≤ℤ pos 3000 }
     requires ahead_most { ahead ≤ℤ pos 3000 }
-    ensures value { result ≡ pos 1000 +ℤ behind +ℤ ahead }
+    ensures value { result ≡ pos 1000 *ℤ width +ℤ behind +ℤ ahead }
     ensures least { pos 1000 ≤ℤ result }
 {
-    let own = 1000 + behind;
+    let own = 1000 * width + behind;
     own + ahead
+}
+
+// The thousandths of the year before a joint.
+fn behind(year: &YearPart) -> i128
+    ensures value { result ≡ weight_behind (year_in 0 year.now) }
+    ensures least { pos 0 ≤ℤ result }
+    ensures most { result ≤ℤ pos 3000 }
+{
+    three(
+        earlier(year, 1),
+        earlier(year, 2),
+        earlier(year, 3),
+        year.sum,
+    )
+}
+
+// The thousandths of the year after a joint.
+fn ahead(next: &YearPart) -> i128
+    ensures value { result ≡ weight_ahead (year_in 0 next.now) }
+    ensures least { pos 0 ≤ℤ result }
+    ensures most { result ≤ℤ pos 3000 }
+{
+    three(rest(next, 1), rest(next, 2), rest(next, 3), next.sum)
 }
 
 // The sum of the indicators of the year before quarter j.
 fn earlier(year: &YearPart, j: usize) -> i128
     requires quarter { j < 4 }
-    ensures value { result ≡ before_quarter year.now j }
+    ensures value { result ≡ before_quarter (year_in 0 year.now) j }
     ensures least { pos 0 ≤ℤ result }
     ensures most { result ≤ℤ year.now.sum }
 {
@@ -70,7 +89,7 @@ fn earlier(year: &YearPart, j: usize) -> i128
 // The sum of the indicators of the year from quarter j on.
 fn rest(year: &YearPart, j: usize) -> i128
     requires quarter { j < 4 }
-    ensures value { result ≡ from_quarter year.now j }
+    ensures value { result ≡ from_quarter (year_in 0 year.now) j }
     ensures least { pos 0 ≤ℤ result }
     ensures most { result ≤ℤ year.now.sum }
 {
@@ -119,36 +138,45 @@ fn square(a: i128) -> i128
     a * a
 }
 
-/// A joint's multiplier after a sweep: moved by its residual over its weight, and cut to 10^15. `first` is the ratio with which the year after the
-/// joint begins, `last` the one with which the year before it ends.
-pub fn moved(own: i128, first: i128, last: i128, weight: i128) -> i128
+/// A joint's multiplier after a sweep: moved by its residual over its weight, and cut to 10^15. `first` is the ratio
+/// with which the year after the joint begins, `last` the one with which the year before it ends, and `width` says how
+/// many changes lead from the one to the other.
+pub fn moved(own: i128, width: i128, first: i128, last: i128, weight: i128) -> i128
     requires own { IsMultiplier own }
-    requires first { unsigned_abs first ≤ 10 ^ 25 }
-    requires last { unsigned_abs last ≤ 2 * 10 ^ 25 }
+    requires least_width { pos 1 ≤ℤ width }
+    requires most_width { width ≤ℤ pos 505 }
+    requires first { unsigned_abs first ≤ 7 * 10 ^ 15 }
+    requires last { unsigned_abs last ≤ 7 * 10 ^ 15 }
     requires weight { pos 1000 ≤ℤ weight }
-    ensures value { result ≡ cut_of (own +ℤ floor_of (pos 1000 *ℤ (first -ℤ last -ℤ own)) weight) }
+    ensures value { let residual = first -ℤ last -ℤ width *ℤ own in
+        result ≡ cut_of (own +ℤ floor_of (pos 1000 *ℤ residual) weight) }
 {
-    cut(own, small_floor(1000 * residual(own, first, last), weight))
+    cut(
+        own,
+        small_floor(1000 * residual(own, width, first, last), weight),
+    )
 }
 
-// How far the step of the ratio at the joint is from the multiplier.
-fn residual(own: i128, first: i128, last: i128) -> i128
+// How far the step of the ratio at the joint is from the multiplier at each change.
+fn residual(own: i128, width: i128, first: i128, last: i128) -> i128
     requires own { IsMultiplier own }
-    requires first { unsigned_abs first ≤ 10 ^ 25 }
-    requires last { unsigned_abs last ≤ 2 * 10 ^ 25 }
-    ensures value { result ≡ first -ℤ last -ℤ own }
-    ensures size { unsigned_abs result ≤ 4 * 10 ^ 25 }
+    requires least_width { pos 1 ≤ℤ width }
+    requires most_width { width ≤ℤ pos 505 }
+    requires first { unsigned_abs first ≤ 7 * 10 ^ 15 }
+    requires last { unsigned_abs last ≤ 7 * 10 ^ 15 }
+    ensures value { result ≡ first -ℤ last -ℤ width *ℤ own }
+    ensures size { unsigned_abs result ≤ 10 ^ 18 }
 {
     let step = first - last;
-    step - own
+    step - width * own
 }
 
 // The floor of a quotient whose numerator is small.
 fn small_floor(n: i128, d: i128) -> i128
     requires positive { pos 1 ≤ℤ d }
-    requires size { unsigned_abs n ≤ 10 ^ 29 }
+    requires size { unsigned_abs n ≤ 10 ^ 21 }
     ensures value { result ≡ floor_of n d }
-    ensures size { unsigned_abs result ≤ 10 ^ 29 }
+    ensures size { unsigned_abs result ≤ 10 ^ 21 }
 {
     floor_div(n, d)
 }
@@ -156,7 +184,7 @@ fn small_floor(n: i128, d: i128) -> i128
 // A multiplier and its move, cut to 10^15 on either side.
 fn cut(own: i128, step: i128) -> i128
     requires own { IsMultiplier own }
-    requires step { unsigned_abs step ≤ 10 ^ 29 }
+    requires step { unsigned_abs step ≤ 10 ^ 21 }
     ensures value { result ≡ cut_of (own +ℤ step) }
 {
     let moved = own + step;

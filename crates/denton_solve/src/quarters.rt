@@ -1,12 +1,12 @@
 //! The benchmarked series: each year's benchmark shared out over its quarters.
 
-ghost use Rattle.std.specs.Prelude.{◌≡◌, ◌≤◌, ◌<◌, ◌+◌, ◌*◌, ◌^◌, pos, ◌*ℤ◌, ◌≤ℤ◌, ◌<ℤ◌, length, take, drop, ◌++◌, slice_index, slice_index_or, unsigned_abs, EachIndex};
-ghost use Rattle.denton_parts.specs.Benchmarks.{MeetsBenchmarks};
+ghost use Rattle.std.specs.Prelude.{◌≡◌, ◌≤◌, ◌<◌, ◌+◌, ◌*◌, ◌^◌, ℕ, pos, ◌*ℤ◌, ◌≤ℤ◌, ◌<ℤ◌, length, take, drop, ◌++◌, slice_index, slice_index_or, unsigned_abs, EachIndex};
+ghost use Rattle.denton_parts.specs.Benchmarks.{AddsUpTo};
 ghost use Rattle.denton_parts.specs.Scale.{scale_of_years};
 ghost use Rattle.denton_parts.specs.Year.{IsMultiplier};
-ghost use Rattle.denton_parts.specs.Years.{IsInReach, indicators_of, benchmarks_of};
+ghost use Rattle.denton_parts.specs.Years.{IsInReach, Wherever, indicators_of, year_in};
 ghost use Rattle.denton_parts.specs.declared.year.YearPart.{YearPart};
-ghost use Rattle.denton_solve.specs.Conditions.{AreMultipliers, AreScaled, IsScaled};
+ghost use Rattle.denton_solve.specs.Conditions.{AreMultipliers, IsScaled};
 ghost use Rattle.denton_solve.specs.Series.{series_of, value_part, year_series, AreShareOuts};
 ghost use Rattle.denton_solve.specs.Sweeps.{first_of};
 
@@ -14,21 +14,26 @@ use crate::sweep::multiplier_at;
 use denton_parts::{YearPart, level, level_unit};
 use sum_rounding::share_four;
 
-/// Writes into `out` the values of the years' quarters in whole currency units, four a year: each year's benchmark shared out in proportion to its
-/// indicators times their levels, between the multipliers `u` that stand between the years: the floors, and the units that are then left go to the
-/// largest remainders. So each year's quarters add up to its benchmark, whatever the multipliers are. A value is below 10^24 in size, and its ratio to its indicator is within 10^16 in units of 1 over 10^scale.
+/// Writes into `out` the values of the years' quarters in whole currency units, four a year, one year behind the other
+/// wherever they stand: each year's benchmark shared out in proportion to its indicators times their levels, between
+/// the multipliers `u` that stand between the years: the floors, and the units that are then left go to the largest
+/// remainders. So each year's quarters add up to its benchmark, whatever the multipliers are. A value is below 10^24 in
+/// size, and its ratio to its indicator is within 10^16 in units of 1 over 10^scale.
 pub fn series(parts: &[YearPart], scale: u8, u: &[i128], out: &mut [i128])
     requires some_year { 1 ≤ length parts.now }
     requires most { length parts.now ≤ 128 }
-    requires scale { scale ≡ scale_of_years parts.now }
+    requires scale { Wherever parts.now (λ years. scale ≡ scale_of_years years) }
     requires joints { length u.now + 1 ≡ length parts.now }
     requires multipliers { AreMultipliers u.now }
     requires room { length out.old ≡ 4 * length parts.now }
-    ensures value { out.new ≡ series_of scale parts.now u.now }
-    ensures shares { AreShareOuts scale (pos 0) parts.now u.now out.new }
-    ensures meets { MeetsBenchmarks (benchmarks_of parts.now) (pos 1) out.new }
-    ensures sizes { EachIndex out.new (λ t. unsigned_abs (slice_index_or out.new t (pos 0)) < 10 ^ 24) }
-    ensures reach { EachIndex out.new (λ t. IsInReach scale (slice_index (indicators_of parts.now) t) (slice_index_or out.new t (pos 0))) }
+    ensures value { Wherever parts.now (λ years. out.new ≡ series_of scale years u.now) }
+    ensures shares { Wherever parts.now (λ years. AreShareOuts scale (pos 0) years u.now out.new) }
+    ensures meets { (y : ℕ) (other : YearPart) → y < length parts.now →
+        AddsUpTo (slice_index_or parts.now y other).bench out.new y }
+    ensures sizes { EachIndex out.new (λ t.
+        unsigned_abs (slice_index_or out.new t (pos 0)) < 10 ^ 24) }
+    ensures reach { EachIndex out.new (λ t.
+        IsInReach scale (slice_index (indicators_of parts.now) t) (slice_index_or out.new t (pos 0))) }
 {
     let mut left = 0;
     for y in 0..parts.len() {
@@ -52,10 +57,10 @@ fn write_year(quarters: &[i128; 4], year: usize, out: &mut [i128])
 #[tactic(auto, using(crate::proofs::Values::year_series_is))]
 fn quarters_of(year: &YearPart, scale: u8, left: i128, right: i128) -> [i128; 4]
     requires scale { scale ≤ 15 }
-    requires scaled { IsScaled scale year.now }
+    requires scaled { IsScaled scale (year_in 0 year.now) }
     requires left { IsMultiplier left }
     requires right { IsMultiplier right }
-    ensures { result ≡ year_series scale year.now left right }
+    ensures { result ≡ year_series scale (year_in 0 year.now) left right }
 {
     share_four(
         part(year, scale, left, right, 0),
@@ -71,10 +76,10 @@ fn quarters_of(year: &YearPart, scale: u8, left: i128, right: i128) -> [i128; 4]
 fn part(year: &YearPart, scale: u8, left: i128, right: i128, j: usize) -> i128
     requires quarter { j < 4 }
     requires scale { scale ≤ 15 }
-    requires scaled { IsScaled scale year.now }
+    requires scaled { IsScaled scale (year_in 0 year.now) }
     requires left { IsMultiplier left }
     requires right { IsMultiplier right }
-    ensures value { result ≡ value_part scale year.now left right j }
+    ensures value { result ≡ value_part scale (year_in 0 year.now) left right j }
     ensures size { unsigned_abs result ≤ 10 ^ 37 }
 {
     weighed(year.ind[j], level(year, scale, left, right, j))

@@ -1,6 +1,7 @@
 -- Passes of a lock with a history, in the words in which the contracts speak of them.
 -- Each name here is this product's own.
-use Rattle.std.specs.Prelude.{◌≡◌, ◌⊎◌, ℕ, ◌≤◌, ◌==◌, leb, Bool, true, false, cond, ◌&&◌, ◌||◌, List, [], ◌∷◌, ◌++◌, length, filter, Option, Some}
+use Rattle.std.specs.Prelude.{◌≡◌, ◌⊎◌, ℕ, ◌≤◌, ◌==◌, leb, Bool, true, false, cond, ◌&&◌, ◌||◌, List, [], ◌∷◌, ◌++◌}
+use Rattle.std.specs.Prelude.{length, filter, Option, Some}
 use Rattle.atomic_table.specs.Seated.{TableId}
 
 -- which lock it is: no two locks have one name
@@ -81,23 +82,40 @@ module _ {E L : Type 0} where
 
   -- the first pass of a lock: it has seen nothing, and its party alone was given
   abbrev pub first_pass : LockName → L → ℕ → Knowledge E L
-  first_pass lock label party = record { lock = lock; live = true; label = Some label; party = party; seen = []; ended = []; gives = true; given = party ∷ [] }
+  first_pass lock label party = record {
+    lock = lock;
+    live = true;
+    label = Some label;
+    party = party;
+    seen = [];
+    ended = [];
+    gives = true;
+    given = party ∷ [];
+  }
 
   -- the second pass knows what the first does, but for what it has seen
   abbrev pub IsSameButSeen : Knowledge E L → Knowledge E L → Type 0
-  IsSameButSeen k m = (m.lock ≡ k.lock) × (m.live ≡ k.live) × (m.label ≡ k.label) × (m.party ≡ k.party) × (m.ended ≡ k.ended) × (m.gives ≡ k.gives) × (m.given ≡ k.given)
+  IsSameButSeen k m =
+      (m.lock ≡ k.lock) × (m.live ≡ k.live) × (m.label ≡ k.label) × (m.party ≡ k.party)
+      × (m.ended ≡ k.ended) × (m.gives ≡ k.gives) × (m.given ≡ k.given)
 
   -- the second pass knows what the first does, and that one more party was given
   abbrev pub IsSameButGiven : ℕ → Knowledge E L → Knowledge E L → Type 0
-  IsSameButGiven p k m = (m.lock ≡ k.lock) × (m.live ≡ k.live) × (m.label ≡ k.label) × (m.party ≡ k.party) × (m.seen ≡ k.seen) × (m.ended ≡ k.ended) × (m.gives ≡ k.gives) × (m.given ≡ p ∷ k.given)
+  IsSameButGiven p k m =
+      (m.lock ≡ k.lock) × (m.live ≡ k.live) × (m.label ≡ k.label) × (m.party ≡ k.party)
+      × (m.seen ≡ k.seen) × (m.ended ≡ k.ended) × (m.gives ≡ k.gives) × (m.given ≡ p ∷ k.given)
 
   -- the second pass is a new party's of the same lock, and has seen what the first has
   abbrev pub IsNewcomer : ℕ → Knowledge E L → Knowledge E L → Type 0
-  IsNewcomer p k m = (m.lock ≡ k.lock) × (m.live ≡ true) × (m.label ≡ k.label) × (m.party ≡ p) × (m.seen ≡ k.seen) × (m.ended ≡ []) × (m.gives ≡ false) × (m.given ≡ [])
+  IsNewcomer p k m =
+      (m.lock ≡ k.lock) × (m.live ≡ true) × (m.label ≡ k.label) × (m.party ≡ p)
+      × (m.seen ≡ k.seen) × (m.ended ≡ []) × (m.gives ≡ false) × (m.given ≡ [])
 
   -- the second pass is the first after its lock was closed
   abbrev pub IsClosed : Knowledge E L → Knowledge E L → Type 0
-  IsClosed k m = (m.lock ≡ k.lock) × (m.live ≡ false) × (m.label ≡ k.label) × (m.party ≡ k.party) × (m.seen ≡ k.seen) × (m.ended ≡ k.ended) × (m.gives ≡ k.gives) × (m.given ≡ k.given)
+  IsClosed k m =
+      (m.lock ≡ k.lock) × (m.live ≡ false) × (m.label ≡ k.label) × (m.party ≡ k.party)
+      × (m.seen ≡ k.seen) × (m.ended ≡ k.ended) × (m.gives ≡ k.gives) × (m.given ≡ k.given)
 
   -- the pass knows which parties were given, and none from this number on was
   abbrev pub IsFreeFrom : ℕ → Knowledge E L → Type 0
@@ -106,8 +124,10 @@ module _ {E L : Type 0} where
   -- The second pass came from the first by splits and joins, and each pass that was made between was joined again:
   -- a party that was given since then ended in it
   abbrev pub IsRegathered : Knowledge E L → Knowledge E L → Type 0
-  IsRegathered k m = (m.lock ≡ k.lock) × (m.live ≡ true) × (m.label ≡ k.label) × (m.party ≡ k.party) × (m.gives ≡ true)
-      × ((p : ℕ) → is_in p m.given ≡ true → (is_in p k.given ≡ true) ⊎ (is_named p m.ended ≡ true)) × ((p : ℕ) → is_named p k.ended ≡ true → is_named p m.ended ≡ true)
+  IsRegathered k m =
+      (m.lock ≡ k.lock) × (m.live ≡ true) × (m.label ≡ k.label) × (m.party ≡ k.party) × (m.gives ≡ true)
+      × ((p : ℕ) → is_in p m.given ≡ true → (is_in p k.given ≡ true) ⊎ (is_named p m.ended ≡ true))
+      × ((p : ℕ) → is_named p k.ended ≡ true → is_named p m.ended ≡ true)
 
   -- what was seen meets the test beside the label
   abbrev pub IsTested : (L → List E → Type 0) → Knowledge E L → Type 0
@@ -124,7 +144,10 @@ module _ {E L : Type 0} (party : E → ℕ) where
 
   -- the third pass is the first after the second was joined into it
   abbrev pub IsJoined : Knowledge E L → Knowledge E L → Knowledge E L → Type 0
-  IsJoined k m r = (r.lock ≡ k.lock) × (r.live ≡ true) × (r.label ≡ k.label) × (r.party ≡ k.party) × (r.seen ≡ longer k.seen m.seen) × (r.ended ≡ k.ended ++ account m) × (r.gives ≡ (k.gives || m.gives)) × (r.given ≡ cond k.gives k.given m.given)
+  IsJoined k m r =
+      (r.lock ≡ k.lock) × (r.live ≡ true) × (r.label ≡ k.label) × (r.party ≡ k.party)
+      × (r.seen ≡ longer k.seen m.seen) × (r.ended ≡ k.ended ++ account m)
+      × (r.gives ≡ (k.gives || m.gives)) × (r.given ≡ cond k.gives k.given m.given)
 
   -- all passes were joined into this one: every party that was given is its own or ended in it
   abbrev pub IsLastPass : Knowledge E L → Type 0

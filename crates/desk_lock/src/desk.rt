@@ -1,7 +1,9 @@
 //! The lock.
 ghost use Rattle.std.specs.Prelude.{◌≡◌, ◌≤◌, ◌%◌, ◌^◌, [], ◌∷◌, List, ℕ, length, Some, None, true, false, IfOk, IsOk};
 ghost use mathlib.Core.List.{IsPrefix};
-ghost use Rattle.desk_lock.specs.Passes.{IsPassOf, first_pass, IsSameButSeen, IsSameButGiven, IsNewcomer, IsClosed, IsTested, IsJoined, IsLastPass, is_in, is_named, account, entries_under, entries_by, own};
+ghost use Rattle.desk_lock.specs.Passes.{IsPassOf, first_pass, IsSameButSeen, IsSameButGiven, IsNewcomer};
+ghost use Rattle.desk_lock.specs.Passes.{IsClosed, IsTested, IsJoined, IsLastPass, is_in, is_named, account};
+ghost use Rattle.desk_lock.specs.Passes.{entries_under, entries_by, own};
 ghost use Rattle.desk_lock.specs.Rules.{taking, giving, newcomer, Lent};
 ghost use Rattle.desk_lock.specs.declared.plays.Phase.TheVariants.{Resting, Waiting};
 
@@ -36,7 +38,8 @@ impl<B: Story> Model for Desk<B> {
 
     ghost view = { λ d. d.table.shared.table_id };
 
-    ghost invariant = { λ d. (d.table.shared.table_id.words ≡ 3) × (d.table.shared.table_id.slots ≡ 1) };
+    ghost invariant = { λ d.
+        (d.table.shared.table_id.words ≡ 3) × (d.table.shared.table_id.slots ≡ 1) };
 }
 
 /// A party had no pass made for it. The pass from which it was to be made comes back.
@@ -100,7 +103,8 @@ impl<B: Story> Desk<B> {
     // Waits until the ticket is served, and takes the book.
     fn take<R: Wait>(&self, rt: &R, seat: &mut Place<B>, ticket: u64) -> B
         requires table { seat.old.table_id ≡ self.now }
-        requires waits { (seat.old.me.1 ≡ []) × (seat.old.me.0.phase ≡ Waiting) × (ticket ≡ seat.old.me.0.ticket % 2 ^ 64) }
+        requires waits { (seat.old.me.1 ≡ []) × (seat.old.me.0.phase ≡ Waiting)
+            × (ticket ≡ seat.old.me.0.ticket % 2 ^ 64) }
         ensures table { seat.new.table_id ≡ seat.old.table_id }
         ensures seat { seat.new.me ≡ (taking (B.list result) seat.old.me.0, (0, None) ∷ []) }
         ensures book { Lent B.list B.party B.label seat.old.me.0 result }
@@ -157,8 +161,10 @@ impl<B: Story> Desk<B> {
         requires rests { seat.old.me.0.phase ≡ Resting }
         requires fresh { (seat.old.me.0.gives ≡ true) × (is_in party seat.old.me.0.given ≡ false) }
         requires name { party ≡ N.party }
-        ensures first { (seat.new.table_id ≡ seat.old.table_id) × (seat.new.me ≡ (giving party seat.old.me.0, seat.old.me.1)) }
-        ensures second { (result.table_id ≡ seat.old.table_id) × (result.me ≡ (newcomer party seat.old.me.0, [])) }
+        ensures first { (seat.new.table_id ≡ seat.old.table_id)
+            × (seat.new.me ≡ (giving party seat.old.me.0, seat.old.me.1)) }
+        ensures second { (result.table_id ≡ seat.old.table_id)
+            × (result.me ≡ (newcomer party seat.old.me.0, [])) }
     {
         self.table.shared.split_seat::<Cut<N>>(seat)
     }
@@ -191,7 +197,8 @@ impl<B: Story> Desk<B> {
         requires last { IsLastPass B.party pass }
         ensures book { B.list result.0 ≡ pass.seen }
         ensures label { Some (B.label result.0) ≡ pass.label }
-        ensures each { (p : ℕ) → entries_by B.party p (B.list result.0) ≡ entries_under p (account B.party pass) }
+        ensures each { (p : ℕ) →
+            entries_by B.party p (B.list result.0) ≡ entries_under p (account B.party pass) }
         ensures given { (p : ℕ) → is_in p pass.given ≡ is_named p (account B.party pass) }
         ensures closed { IsClosed pass result.1 }
         ensures tested { IsTested B.test result.1 }

@@ -29,9 +29,16 @@ impl<'a, B: Story> Model for Held<'a, B> {
 
     ghost Value = { Loan B B.Entry B.Label };
 
-    ghost view = { λ h. record { pass = shown h.seat.table_id h.seat.me.0; base = h.seat.me.0.base; book = h.book } };
+    ghost view = { λ h. record {
+      pass = shown h.seat.table_id h.seat.me.0;
+      base = h.seat.me.0.base;
+      book = h.book;
+    } };
 
-    ghost invariant = { λ h. (h.seat.table_id ≡ h.desk.now) × (h.seat.me.1 ≡ (0, None) ∷ []) × (h.seat.me.0.phase ≡ Holding) × (h.seat.me.0.party ≡ h.number) × (h.count ≡ length h.seat.me.0.base) };
+    ghost invariant = { λ h.
+        (h.seat.table_id ≡ h.desk.now) × (h.seat.me.1 ≡ (0, None) ∷ [])
+        × (h.seat.me.0.phase ≡ Holding) × (h.seat.me.0.party ≡ h.number)
+        × (h.count ≡ length h.seat.me.0.base) };
 }
 
 impl<'a, B: Story> Held<'a, B> {
@@ -66,7 +73,8 @@ fn put_back<B: Story>(desk: &Desk<B>, seat: &mut Place<B>, book: B, count: u64)
     requires count { count ≡ length seat.old.me.0.base }
     requires grew { GrewBy B.party seat.old.me.0.party seat.old.me.0.base (B.list book) }
     requires room { length (B.list book) ≤ 2 ^ 40 }
-    ensures { (seat.new.table_id ≡ seat.old.table_id) × (seat.new.me ≡ (adding (B.list book) seat.old.me.0, (0, Some book) ∷ [])) }
+    ensures { (seat.new.table_id ≡ seat.old.table_id)
+        × (seat.new.me ≡ (adding (B.list book) seat.old.me.0, (0, Some book) ∷ [])) }
 {
     let grew = book.count() > count;
     let left = desk.table.shared.exchange(seat, 0, Some(book));

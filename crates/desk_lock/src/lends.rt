@@ -11,7 +11,9 @@ use crate::story::Story;
 impl<'a, B: Story> Held<'a, B> {
     /// The book. When the borrow ends, the hold has what was written through it.
     pub fn book(&mut self) -> &mut B
-        ensures* writes_back { sem 𝓛 (Lends (the_row (record { mir = named 0; lft = [] }) B.row B.Entry.row B.Label.row B.Story) B.row self.entry result (with_book self.old)) }
+        ensures* writes_back { sem 𝓛 (Lends
+            (the_row (record { mir = named 0; lft = [] }) B.row B.Entry.row B.Label.row B.Story)
+            B.row self.entry result (with_book self.old)) }
         ensures value { result.now ≡ self.old.book }
     {
         &mut self.book

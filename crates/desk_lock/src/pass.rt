@@ -25,7 +25,10 @@ impl<B: Story> Model for Pass<B> {
 
     ghost view = { λ p. shown p.seat.table_id p.seat.me.0 };
 
-    ghost invariant = { λ p. (p.seat.me.1 ≡ []) × (is_in_turn p.seat.me.0.phase ≡ false) × (p.seat.me.0.party ≡ p.number) × IsTested B.test (shown p.seat.table_id p.seat.me.0) };
+    ghost invariant = { λ p.
+        (p.seat.me.1 ≡ []) × (is_in_turn p.seat.me.0.phase ≡ false)
+        × (p.seat.me.0.party ≡ p.number)
+        × IsTested B.test (shown p.seat.table_id p.seat.me.0) };
 }
 
 impl<B: Story> Pass<B> {

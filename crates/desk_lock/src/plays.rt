@@ -1,7 +1,7 @@
 //! The rule of the table under the lock, and what each kind of step on it tells.
 //!
-//! Word 0 is the number of entries in the history, word 1 the number of tickets drawn, word 2 the ticket that is served.
-//! Slot 0 holds the book, and nothing while a turn is held.
+//! Word 0 is the number of entries in the history, word 1 the number of tickets drawn, word 2 the ticket that is
+//! served. Slot 0 holds the book, and nothing while a turn is held.
 use crate::story::Story;
 use atomic_table::{Join, Play, Seat, Split, TableRule};
 use std::collections::LinkedList;

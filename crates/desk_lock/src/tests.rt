@@ -64,7 +64,8 @@ impl Log {
     // Says whether the line was added.
     fn add(&mut self, line: Line) -> bool
         ensures label { self.new.limit ≡ self.old.limit }
-        ensures lines { MatchBool result (self.new.lines.items ≡ self.old.lines.items ++ line ∷ []) (self.new.lines.items ≡ self.old.lines.items) }
+        ensures lines { MatchBool result (self.new.lines.items ≡ self.old.lines.items ++ line ∷ [])
+            (self.new.lines.items ≡ self.old.lines.items) }
         ensures room { length self.new.lines.items ≤ 2 ^ 40 }
     {
         (self.lines.len() as u64) < self.limit && self.lines.push(line).is_ok()
@@ -141,7 +142,8 @@ fn crew<R: Threads + Wait + Sync>(
     let (rest, one) = join(
         rt,
         || -> (Pass<Log>, bool)
-            requires { IsPassOf desk.now pass × IsFreeFrom (first + 1) pass × (0 < left) × (first + left < 65536) × IsSync R.row }
+            requires { IsPassOf desk.now pass × IsFreeFrom (first + 1) pass
+                × (0 < left) × (first + left < 65536) × IsSync R.row }
             ensures { IsRegathered pass result.0 }
         { crew(rt, desk, pass, first + 1, left - 1) },
         || work(rt, desk, other),

@@ -13,6 +13,3 @@ pub use laws::{
     rounds_have_what_is_touched_between_fronts, touched_items_have_the_jobs,
 };
 pub use round::PlanRound;
-
-#[cfg(test)]
-mod tests;

@@ -1,9 +1,9 @@
 pub mod Quarters
 pub mod Years
+pub mod Runs
 pub mod Duality
 pub mod Whole
 pub mod Sizes
 pub mod Parts
 pub mod Steps
 pub mod Totals
-pub mod Examples

@@ -1,10 +1,10 @@
 -- The steps of the loop that adds up the squared distances.
 use Rattle.std.specs.Prelude.{◌≡◌, ℕ, ◌+◌, ◌-◌, ◌*◌, ◌≤◌, ◌<◌, max, ℤ, pos, ◌≤ℤ◌, ◌+ℤ◌, ◌-ℤ◌, ◌*ℤ◌, List, [], ◌∷◌, length, drop, unsigned_abs}
 use Rattle.std.proofs.Common.{refl, ◌∙◌, ap, arith, zero, suc, get_or}
-use Rattle.std.proofs.Math.ListN.{drop_of_length-le, length-map}
+use Rattle.std.proofs.Math.ListN.{drop_of_length-le}
 use Rattle.denton_parts.specs.Ratios.{square}
 use Rattle.ratio_arith.proofs.Linear.{linear}
-use Rattle.denton_parts.specs.Changes.{Fraction, no_change, changes_from}
+use Rattle.denton_parts.specs.Changes.{Fraction, no_change}
 use Rattle.denton_parts.specs.declared.quotient.Quotient.{Quotient}
 use Rattle.dual_cert.specs.Parts.{AreBoundsOf}
 use Rattle.denton_parts.specs.Gap.{low_of, high_of, distance_of, gap_from, gap_by}
@@ -27,15 +27,6 @@ gap_from-next scale i x (suc t) (i0 ∷ is) (x0 ∷ xs) (c0 ∷ cs) inside same_
 -- past the last quarter nothing is left
 pub gap_from-end : (scale : ℤ) (i : ℕ) (x : ℤ) (t : ℕ) (indicators : List ℕ) (quarters : List ℤ) (changes : List Fraction) → length indicators ≤ t → gap_from scale i x (drop t indicators) (drop t quarters) (drop t changes) ≡ pos 0
 gap_from-end scale i x t indicators quarters changes past = ap (λ l. gap_from scale i x l (drop t quarters) (drop t changes)) (drop_of_length-le indicators past)
-
--- there are as many changes as indicators
-pub length-changes_from : (rights : List ℤ) (left : ℤ) (indicators : List ℕ) → length (changes_from left rights indicators) ≡ length indicators
-length-changes_from [] left indicators = length-map indicators (λ i. no_change)
-length-changes_from (right ∷ rights) left [] = refl
-length-changes_from (right ∷ rights) left (i0 ∷ []) = refl
-length-changes_from (right ∷ rights) left (i0 ∷ i1 ∷ []) = refl
-length-changes_from (right ∷ rights) left (i0 ∷ i1 ∷ i2 ∷ []) = refl
-length-changes_from (right ∷ rights) left (i0 ∷ i1 ∷ i2 ∷ i3 ∷ rest) = let more = length-changes_from rights right rest in omega arith
 
 -- what the code squares is the distance
 pub square_is : (unit : ℤ) (i0 : ℕ) (x0 : ℤ) (i1 : ℕ) (x1 : ℤ) (c : Fraction) (before now change : Quotient) (squared : ℤ) → AreBoundsOf (unit *ℤ x0) (pos i0) before → AreBoundsOf (unit *ℤ x1) (pos i1) now → AreBoundsOf c.numerator c.denominator change → squared ≡ pos (max (unsigned_abs (now.floor -ℤ before.ceiling -ℤ change.ceiling)) (unsigned_abs (now.ceiling -ℤ before.floor -ℤ change.floor)) * max (unsigned_abs (now.floor -ℤ before.ceiling -ℤ change.ceiling)) (unsigned_abs (now.ceiling -ℤ before.floor -ℤ change.floor))) → squared ≡ square (distance_of unit i0 x0 i1 x1 c)

@@ -1,16 +1,19 @@
 -- Weak duality for whole series: the changes' denominators have a common multiple, all lists stand side by side, and both multiples are taken off at the end.
 use Rattle.std.specs.Prelude.{◌≡◌, ℕ, ◌+◌, ◌≤◌, ℤ, pos, ◌+ℤ◌, ◌-ℤ◌, ◌*ℤ◌, neg_ℤ, ◌≤ℤ◌, ◌<ℤ◌, List, [], ◌∷◌, ◌++◌, length, map, slice_index, EachIndex}
-use Rattle.std.proofs.Common.{refl, ◌∙◌, ap, arith, suc}
+use Rattle.std.proofs.Common.{refl, ◌∙◌, ap, arith, suc, get_or}
 use Rattle.std.proofs.Math.IntN.{*ℤ-zero}
+use Rattle.std.proofs.lemmas.List.{length-append, get_or_push}
 use Rattle.ratio_arith.proofs.Linear.{linear}
 use Rattle.ratio_arith.proofs.Order.{product_strict, product_cancel}
 use Rattle.ratio_arith.proofs.Ring.{same_by_ring, var, num, ◌⊕◌, ◌⊖◌, ◌⊗◌}
-use Rattle.denton_parts.specs.Benchmarks.{MeetsBenchmarks}
-use Rattle.denton_parts.specs.Ratios.{square, AreFactors, objective, squared_changes_from, scaled_ratios, IsWithinGap}
-use Rattle.denton_parts.specs.Changes.{Fraction, no_change, changes_from, changes}
+use Rattle.denton_parts.specs.Ratios.{square, AreFactors, objective, squared_changes_from, scaled_ratios}
+use Rattle.denton_parts.specs.Changes.{Fraction, steady, changes_from, changes}
 use Rattle.denton_parts.specs.Gap.{gap_from, gap_by}
 use Rattle.dual_cert.proofs.Quarters.{of_series, of_other, of_gap, of_balance}
-use Rattle.dual_cert.proofs.Duality.{Aligned, no_quarters, next_quarter, balance_from, duality_from, weigh_run}
+use Rattle.denton_parts.specs.Year.{BenchmarkedYear}
+use Rattle.dual_cert.specs.Laws.{GapBoundsAll}
+use Rattle.dual_cert.proofs.Runs.{Benchmarked, own_year, other_year, benchmarked_run}
+use Rattle.dual_cert.proofs.Duality.{Aligned, no_quarters, next_quarter, balance_from, duality_from, changes_here, changes_other, weigh_run}
 
 -- as many changes as indicators, each with a positive denominator
 abbrev ChangesFit : List ℕ → List Fraction → Type 0
@@ -18,9 +21,10 @@ ChangesFit [] [] = Unit {0}
 ChangesFit (i ∷ is) (c ∷ cs) = (pos 0 <ℤ c.denominator) × ChangesFit is cs
 ChangesFit _ _ = ⊥
 
-no_changes_fit : (is : List ℕ) → ChangesFit is (map (λ i. no_change) is)
-no_changes_fit [] = tt
-no_changes_fit (i ∷ is) = (omega (arith, linear), no_changes_fit is)
+-- so are those of quarters of no benchmarked year
+steady_fits : (left : ℤ) (is : List ℕ) → ChangesFit is (map (λ i. steady left) is)
+steady_fits left [] = tt
+steady_fits left (i ∷ is) = (omega (arith, linear), steady_fits left is)
 
 -- all indicators are positive
 abbrev pub ArePositive : List ℕ → Type 0
@@ -29,18 +33,33 @@ ArePositive indicators = EachIndex indicators (λ t. 1 ≤ slice_index indicator
 later_positive : (i : ℕ) (is : List ℕ) → ArePositive (i ∷ is) → ArePositive is
 later_positive i is positive t h = positive (suc t) (omega arith)
 
+-- all but the first four are
+behind_positive : (i0 i1 i2 i3 : ℕ) (is : List ℕ) → ArePositive (i0 ∷ i1 ∷ i2 ∷ i3 ∷ is) → ArePositive is
+behind_positive i0 i1 i2 i3 is positive =
+    later_positive i3 is (later_positive i2 (i3 ∷ is) (later_positive i1 (i2 ∷ i3 ∷ is)
+    (later_positive i0 (i1 ∷ i2 ∷ i3 ∷ is) positive)))
+
 -- the changes that multipliers fix are as many as the indicators
-changes_fit : (rights : List ℤ) (left : ℤ) (is : List ℕ) → ArePositive is → ChangesFit is (changes_from left rights is)
-changes_fit [] left is positive = no_changes_fit is
-changes_fit (right ∷ rights) left [] positive = tt
-changes_fit (right ∷ rights) left (i0 ∷ []) positive = no_changes_fit (i0 ∷ [])
-changes_fit (right ∷ rights) left (i0 ∷ i1 ∷ []) positive = no_changes_fit (i0 ∷ i1 ∷ [])
-changes_fit (right ∷ rights) left (i0 ∷ i1 ∷ i2 ∷ []) positive = no_changes_fit (i0 ∷ i1 ∷ i2 ∷ [])
-changes_fit (right ∷ rights) left (i0 ∷ i1 ∷ i2 ∷ i3 ∷ is) positive =
+changes_fit : (n : ℤ) (place : ℕ) (left : ℤ) (years : List BenchmarkedYear) (rights : List ℤ) (is : List ℕ)
+    (xs zs : List ℤ) → Benchmarked n place years is xs zs → length rights ≡ length years → ArePositive is →
+    ChangesFit is (changes_from place left years rights is)
+changes_fit n place left [] [] is xs zs run same positive = steady_fits left is
+changes_fit n place left [] (right ∷ rights) is xs zs run same positive = absurd (omega arith)
+changes_fit n place left (year ∷ years) [] is xs zs run same positive = absurd (omega arith)
+changes_fit n place left (year ∷ years) (right ∷ rights) is' xs' zs'
+    (own_year _ _ _ i0 i1 i2 i3 is x0 x1 x2 x3 xs z0 z1 z2 z3 zs here own ex ez run) same positive =
     let first : 1 ≤ i0 = positive 0 (omega arith) in
     let whole : pos 0 <ℤ pos (i0 + i1 + i2 + i3) = omega (arith, linear) in
-    let rest = later_positive i3 is (later_positive i2 (i3 ∷ is) (later_positive i1 (i2 ∷ i3 ∷ is) (later_positive i0 (i1 ∷ i2 ∷ i3 ∷ is) positive))) in
-    (whole, (whole, (whole, (whole, changes_fit rights right is rest))))
+    let rest = changes_fit n (suc place) right years rights is xs zs run (omega arith)
+    (behind_positive i0 i1 i2 i3 is positive) in
+    rw (changes_here place left year years right rights i0 i1 i2 i3 is here own)
+    (whole, (whole, (whole, (whole, rest))))
+changes_fit n place left (year ∷ years) (right ∷ rights) is' xs' zs'
+    (other_year _ _ _ i0 i1 i2 i3 is x0 x1 x2 x3 xs z0 z1 z2 z3 zs below run) same positive =
+    let one : pos 0 <ℤ pos 1 = omega (arith, linear) in
+    let rest = changes_fit n (suc place) left (year ∷ years) (right ∷ rights) is xs zs run same
+    (behind_positive i0 i1 i2 i3 is positive) in
+    rw (changes_other place left year years right rights i0 i1 i2 i3 is below) (one, (one, (one, (one, rest))))
 
 -- a factor on the common multiple of the denominators is one on each quarter's factor
 rescale : (whole share d : ℤ) (is : List ℕ) (ps xs zs : List ℤ) (cs : List Fraction) (qs : List ℤ) → Aligned whole share is ps xs zs cs qs → Aligned whole (share *ℤ d) is ps xs zs cs (map (λ q. q *ℤ d) qs)
@@ -111,8 +130,25 @@ within_run n whole share scale whole_positive share_positive is' ps' xs' zs' cs'
     let nothing : balance_from n (p *ℤ (n *ℤ x -ℤ z)) ps xs zs cs qs ≡ pos 0 = omega (arith, linear) in
     take_off n whole share scale (squared_changes_from (p *ℤ x) (scaled_ratios ps xs)) (squared_changes_from (p *ℤ z) (scaled_ratios ps zs)) (gap_from scale i x is xs cs) (balance_from n (p *ℤ (n *ℤ x -ℤ z)) ps xs zs cs qs) share_positive nothing (duality_from n whole share scale whole_positive share_positive is ps xs zs cs qs al i p x z fits.indicator fits.factor)
 
+-- no multiplier stands after the last year
+last_multiplier : (years : List BenchmarkedYear) (multipliers : List ℤ) → length years ≡ length multipliers + 1 →
+    get_or (pos 0 ∷ (multipliers ++ pos 0 ∷ [])) (length years) (pos 0) ≡ pos 0
+last_multiplier years multipliers joints =
+    let count : length years ≡ suc (length multipliers) = omega arith in
+    rw count (get_or_push multipliers (pos 0) (pos 0) (length multipliers) refl)
+
 -- no series that meets the benchmarks is better by more than the gap, whatever the multipliers
-pub within_gap : (indicators : List ℕ) (benchmarks quarters multipliers : List ℤ) (scale : ℤ) → ArePositive indicators → length quarters ≡ length indicators → length benchmarks ≡ length multipliers + 1 → MeetsBenchmarks benchmarks (pos 1) quarters → IsWithinGap indicators benchmarks quarters (gap_by scale indicators quarters (changes multipliers indicators)) scale
-within_gap indicators benchmarks quarters multipliers scale positive same_length joints meets n whole factors others n_positive whole_positive are_factors others_length others_meet =
-    let run = shared_run whole indicators factors quarters others (changes multipliers indicators) are_factors positive same_length others_length (changes_fit (multipliers ++ pos 0 ∷ []) (pos 0) indicators positive) in
-    within_run n whole run.share scale whole_positive run.positive indicators factors quarters others (changes multipliers indicators) run.parts run.aligned (λ w. weigh_run n whole run.share multipliers benchmarks (pos 0) w indicators factors quarters others run.parts run.aligned (omega arith) meets others_meet)
+pub within_gap : GapBoundsAll
+within_gap indicators years quarters multipliers scale positive are same_length joints meets
+    n whole factors others n_positive whole_positive are_factors others_length others_meet =
+    let rights : length (multipliers ++ pos 0 ∷ []) ≡ length years =
+    omega (arith, length-append multipliers (pos 0 ∷ [])) in
+    let run = benchmarked_run n years indicators quarters others are same_length others_length meets others_meet in
+    let fit = changes_fit n 0 (pos 0) years (multipliers ++ pos 0 ∷ []) indicators quarters others run rights
+    positive in
+    let shared = shared_run whole indicators factors quarters others (changes years multipliers indicators) are_factors
+    positive same_length others_length fit in
+    within_run n whole shared.share scale whole_positive shared.positive indicators factors quarters others
+    (changes years multipliers indicators) shared.parts shared.aligned
+    (λ w. weigh_run n whole shared.share 0 (pos 0) years (multipliers ++ pos 0 ∷ []) w indicators factors quarters
+    others shared.parts run rights (last_multiplier years multipliers joints) shared.aligned)

@@ -1,9 +1,10 @@
--- One benchmarked year's part of the balance, by parts: inside a year the changes fall by multiples of the indicators, so the differences of two series that meet one benchmark drop out.
+-- One year's part of the balance, by parts: inside a benchmarked year the changes fall by multiples of the indicators,
+-- so the differences of two series that meet one benchmark drop out, and in any other year the change stays.
 use Rattle.std.specs.Prelude.{◌≡◌, ℕ, ◌+◌, ℤ, pos, ◌+ℤ◌, ◌-ℤ◌, ◌*ℤ◌, neg_ℤ, ◌<ℤ◌, [], ◌∷◌}
 use Rattle.std.proofs.Common.{refl, sym, ◌∙◌, ap, arith}
 use Rattle.ratio_arith.proofs.Linear.{linear}
 use Rattle.ratio_arith.proofs.Order.{product_cancel_same}
-use Rattle.ratio_arith.proofs.Ring.{same_by_ring, var, num, ◌⊕◌, ◌⊖◌, ◌⊗◌}
+use Rattle.ratio_arith.proofs.Ring.{same_by_ring, var, num, ◌⊕◌, ◌⊖◌, ◌⊗◌, neg}
 use Rattle.denton_parts.specs.Changes.{change_of}
 
 -- a year by parts: the weighed changes of four ratios w0 to w3 after w, and what follows
@@ -83,3 +84,25 @@ same_share share q r sum positive e f =
     let first : sum *ℤ r ≡ r *ℤ sum = same_by_ring (sum ∷ r ∷ []) (x ⊗ y) (y ⊗ x) refl in
     let second : sum *ℤ q ≡ q *ℤ sum = same_by_ring (sum ∷ q ∷ []) (x ⊗ y) (y ⊗ x) refl in
     product_cancel_same sum r q positive (first ∙ f ∙ sym e ∙ sym second)
+
+-- four quarters of no benchmarked year: their given change stays, so its parts telescope
+pub hole_step : (share left w w0 w1 w2 w3 t : ℤ) → t ≡ neg_ℤ (share *ℤ (left *ℤ w3)) →
+    share *ℤ left *ℤ (w0 -ℤ w) +ℤ (share *ℤ left *ℤ (w1 -ℤ w0)
+    +ℤ (share *ℤ left *ℤ (w2 -ℤ w1) +ℤ (share *ℤ left *ℤ (w3 -ℤ w2) +ℤ t)))
+    ≡ neg_ℤ (share *ℤ (left *ℤ w))
+hole_step share left w w0 w1 w2 w3 t follows =
+    let s = var 0 in
+    let l = var 1 in
+    let b = var 2 in
+    let b0 = var 3 in
+    let b1 = var 4 in
+    let b2 = var 5 in
+    let b3 = var 6 in
+    rw follows
+    (same_by_ring (share ∷ left ∷ w ∷ w0 ∷ w1 ∷ w2 ∷ w3 ∷ [])
+    (s ⊗ l ⊗ (b0 ⊖ b) ⊕ (s ⊗ l ⊗ (b1 ⊖ b0) ⊕ (s ⊗ l ⊗ (b2 ⊖ b1) ⊕ (s ⊗ l ⊗ (b3 ⊖ b2) ⊕ neg (s ⊗ (l ⊗ b3))))))
+    (neg (s ⊗ (l ⊗ b))) refl)
+
+-- the share of a change that is a whole number is the whole share
+pub one_share : (share q : ℤ) → q *ℤ pos 1 ≡ share → q ≡ share
+one_share share q e = same_by_ring (q ∷ []) (var 0) (var 0 ⊗ num (pos 1)) refl ∙ e

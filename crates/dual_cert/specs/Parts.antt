@@ -1,25 +1,29 @@
 -- Years as parts of a run of quarters.
-use Rattle.std.specs.Prelude.{◌≡◌, ℕ, ◌≤◌, ℤ, pos, List, [], ◌∷◌, ◌++◌, slice_index_or, unsigned_abs}
+use Rattle.std.specs.Prelude.{◌≡◌, ℕ, ◌+◌, ◌-◌, ◌*◌, ◌≤◌, ◌<◌, nat_lt, ℤ, pos, List, [], ◌∷◌, ◌++◌, length, slice_index, unsigned_abs, if◌then◌else◌}
 use Rattle.ratio_arith.specs.Division.{floor_of, ceil_of}
-use Rattle.denton_parts.specs.Changes.{Fraction, no_change}
-use Rattle.denton_parts.specs.Year.{change_in_year}
+use Rattle.denton_parts.specs.Changes.{Fraction, steady, change_in_year}
+use Rattle.denton_parts.specs.Year.{BenchmarkedYear}
 use Rattle.denton_parts.specs.declared.quotient.Quotient.{Quotient}
-use Rattle.denton_parts.specs.declared.year.YearPart.{YearPart}
 
--- the indicators begin with those of the years, four a year
-abbrev pub BeginsWithYears : List YearPart → List ℕ → Type 0
-BeginsWithYears [] indicators = Unit {0}
-BeginsWithYears (year ∷ years) (i0 ∷ i1 ∷ i2 ∷ i3 ∷ rest) = (year.ind ≡ i0 ∷ i1 ∷ i2 ∷ i3 ∷ []) × BeginsWithYears years rest
-BeginsWithYears (year ∷ years) _ = ⊥
+-- the change into a quarter of the run, from the multiplier before these years and those after each on: before a year
+-- the multiplier that stands there, in it the year's own change, and behind it the change of the years that follow
+abbrev pub change_among : ℤ → List BenchmarkedYear → List ℤ → ℕ → Fraction
+change_among left (year ∷ years) (right ∷ rights) quarter =
+    if nat_lt quarter (4 * year.place) then steady left
+    else if nat_lt quarter (4 * year.place + 4)
+    then change_in_year year.indicators left right (quarter - 4 * year.place)
+    else change_among right years rights quarter
+change_among left _ _ quarter = steady left
 
--- the changes into the quarters of the years, from the multiplier before the first and those after each
-abbrev pub year_changes_from : ℤ → List ℤ → List YearPart → List Fraction
-year_changes_from left (right ∷ rights) (year ∷ years) = change_in_year year.ind left right 0 ∷ change_in_year year.ind left right 1 ∷ change_in_year year.ind left right 2 ∷ change_in_year year.ind left right 3 ∷ year_changes_from right rights years
-year_changes_from left _ _ = []
+-- the change into a quarter of the run: no multiplier stands before the first year and after the last
+abbrev pub change_at_quarter : List BenchmarkedYear → List ℤ → ℕ → Fraction
+change_at_quarter years multipliers quarter = change_among (pos 0) years (multipliers ++ pos 0 ∷ []) quarter
 
--- the change into a quarter of the run, past the last year none
-abbrev pub year_change : List YearPart → List ℤ → ℕ → Fraction
-year_change years multipliers quarter = slice_index_or (year_changes_from (pos 0) (multipliers ++ pos 0 ∷ []) years) quarter no_change
+-- so many of the years of these places end before a quarter, and no others
+pub record AreEnded (places : List ℕ) (ended quarter : ℕ) : Type 0 where
+  pub most : ended ≤ length places
+  pub each : (y : ℕ) → y < ended → 4 * slice_index places y + 4 ≤ quarter
+  pub next : ended < length places → quarter < 4 * slice_index places ended + 4
 
 -- the floor and the ceiling of n/d
 abbrev pub AreBoundsOf : ℤ → ℤ → Quotient → Type 0

@@ -5,7 +5,7 @@
 pub struct Cert {
     /// k, where multipliers are in units of 1 over 10^k and the gap in units of 1 over 10^2k
     pub scale: u8,
-    /// the multipliers between the benchmarked years, one fewer than these
+    /// the multipliers between each benchmarked year and the next, one fewer than these
     pub u: Vec<i128>,
     /// the bound on what a better series could save
     pub gap: i128,

@@ -15,13 +15,16 @@ pub struct CertDoc {
     pub start: u16,
     /// the quarters' indicators, each from 1 to 10^9, at most 256
     pub ind: Vec<u32>,
-    /// the benchmarks of the benchmarked years, each within 10^12: at least one, with their four quarters each
+    /// the benchmarked years, at least one, counted from 0 at the first year and rising, each with its four quarters
+    pub years: Vec<u8>,
+    /// their benchmarks, each within 10^12
     pub bench: Vec<i64>,
     /// the quarters' values, one for each indicator, each within 10^16 times its indicator over 10^k
     pub x: Vec<i128>,
-    /// the multipliers between the benchmarked years, each within 10^15
+    /// the multipliers between each benchmarked year and the next, each within 10^15
     pub u: Vec<i128>,
     /// the gap that the certificate states, 0 to 10^36
     pub gap: i128,
-    pub ghost kept: { IsDocument name.items front scale start ind.items bench.items x.items u.items gap },
+    pub ghost kept: { IsDocument name.items front scale start years.items ind.items bench.items
+        x.items u.items gap },
 }

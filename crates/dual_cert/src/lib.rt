@@ -21,6 +21,3 @@ pub use verdict::{Verdict, check};
 pub fn weak_duality()
     ensures { GapBoundsAll }
 {}
-
-#[cfg(test)]
-mod tests;

@@ -1,5 +1,6 @@
 -- The inputs that are accepted of the lines of a stream, and the lines that are refused.
-use Rattle.std.specs.Prelude.{ℕ, ◌+◌, Bool, true, false, nat_lt, List, [], ◌∷◌, ◌++◌, length, take, map, Option, Some, None, if◌then◌else◌}
+use Rattle.std.specs.Prelude.{ℕ, ◌+◌, Bool, true, false, nat_lt, List, [], ◌∷◌, ◌++◌, length, take, map}
+use Rattle.std.specs.Prelude.{Option, Some, None, if◌then◌else◌}
 use Rattle.std.specs.List.{filter_map}
 use Rattle.std.specs.Option.{option_to_list}
 use Rattle.series_tables.specs.Plan.{PlanShape}
@@ -48,10 +49,12 @@ pub record RefusedLine : Type 0 where
   pub number : ℕ
   pub cause : Cause
 
--- the refusal of a line with this number, where so many inputs were accepted before it: an input past the greatest number is full
+-- the refusal of a line with this number, where so many inputs were accepted before it: an input past the greatest
+-- number is full
 abbrev pub refused_next : ℕ → ℕ → Judged → Option RefusedLine
 refused_next before number Passed = None
-refused_next before number (Taken i) = if nat_lt before most_inputs then None else Some (record { number = number; cause = Full })
+refused_next before number (Taken i) =
+    if nat_lt before most_inputs then None else Some (record { number = number; cause = Full })
 refused_next before number (Refused cause) = Some (record { number = number; cause = cause })
 
 -- the refused lines of those that follow so many accepted inputs

@@ -3,7 +3,8 @@
 ghost use Rattle.std.specs.Prelude.{◌≡◌, ◌<◌, IfOk, IfSome, IsTrue, length};
 ghost use Rattle.series_tables.specs.Fits.{FitsPlan};
 ghost use Rattle.series_tables.specs.Plan.{is_leaf};
-ghost use Rattle.input_rules.specs.Judgement.{is_zero_indicator as is_zero_indicator_of, is_in_range as is_in_range_of, leaf_with_name as leaf_with_name_of, judgement, judgement_of_leaf};
+ghost use Rattle.input_rules.specs.Judgement.{is_zero_indicator as is_zero_indicator_of, is_in_range as is_in_range_of};
+ghost use Rattle.input_rules.specs.Judgement.{leaf_with_name as leaf_with_name_of, judgement, judgement_of_leaf};
 
 use series_tables::{Input, Kind, Plan};
 
@@ -14,8 +15,8 @@ pub struct RawInput {
     pub kind: Kind,
     /// The name of the leaf, in bytes.
     pub name: Vec<u8>,
-    /// The quarter from the start year's first on, or for a benchmark the year from the start year on, both from 0; none
-    /// where it lies outside the 64 years from the start year.
+    /// The quarter from the start year's first on, or for a benchmark the year from the start year on, both from 0;
+    /// none where it lies outside the 64 years from the start year.
     pub period: Option<u16>,
     /// The value, cut to 10^15 on either side.
     pub value: i64,
@@ -37,8 +38,9 @@ const QUARTERS: u16 = 256;
 /// The years of a plan, from its start year on.
 const YEARS: u16 = 64;
 
-/// Judges an input: `Unknown` exactly where no leaf has its name; else `Zero` exactly where it is an indicator of 0; else `Range`
-/// exactly where its period or its value is out of range. An input that is taken fits the plan, with the leaf's number.
+/// Judges an input: `Unknown` exactly where no leaf has its name; else `Zero` exactly where it is an indicator of 0;
+/// else `Range` exactly where its period or its value is out of range. An input that is taken fits the plan, with the
+/// leaf's number.
 pub fn judge(plan: &Plan, raw: &RawInput) -> Result<Input, Refusal>
     ensures judgement { result
         ≡ judgement plan.now raw.now.kind raw.now.name.items raw.now.period raw.now.value }

@@ -10,6 +10,3 @@ pub use lines::{
     Cause, Judged, accepted_inputs_fit, cause_of, each_line_counts_once, judge_line, lines_go_on,
 };
 pub use requests::{LineInput, Request, line_fields, read_request};
-
-#[cfg(test)]
-mod tests;

@@ -5,8 +5,10 @@ ghost use Rattle.std.specs.Option.{option_to_list};
 ghost use Rattle.series_tables.specs.Plan.{PlanShape};
 ghost use Rattle.series_tables.specs.Fits.{FitsPlan};
 ghost use Rattle.line_form.specs.Lines.{TextLine, line_view};
-ghost use Rattle.input_rules.specs.Lines.{cause_text, cause_of as cause_of_refusal, judged_input, judged_request, judged_line};
-ghost use Rattle.input_rules.specs.Accepted.{most_inputs, judged_lines, is_passed, taken, accepted, accepted_of, accepted_next, refused_next, refusals_of};
+ghost use Rattle.input_rules.specs.Lines.{cause_text, cause_of as cause_of_refusal, judged_input};
+ghost use Rattle.input_rules.specs.Lines.{judged_request, judged_line};
+ghost use Rattle.input_rules.specs.Accepted.{most_inputs, judged_lines, is_passed, taken, accepted, accepted_of};
+ghost use Rattle.input_rules.specs.Accepted.{accepted_next, refused_next, refusals_of};
 ghost use Rattle.input_rules.specs.Views.{request_view};
 
 use crate::judging::{Refusal, judge_input};
@@ -82,8 +84,8 @@ pub fn judge_line(alloc: Global, plan: &Plan, line: &Line) -> Result<Judged, Mem
     }
 }
 
-/// Of any lines each is passed over, or its input is accepted, or it is refused: none is lost, and none counts twice. At
-/// most 262,144 inputs are accepted.
+/// Of any lines each is passed over, or its input is accepted, or it is refused: none is lost, and none counts twice.
+/// At most 262,144 inputs are accepted.
 pub fn each_line_counts_once()
     ensures once { (plan : PlanShape) (lines : List TextLine) →
         length (accepted_of plan lines) + length (refusals_of plan lines)

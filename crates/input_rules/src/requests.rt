@@ -4,7 +4,9 @@ ghost use Rattle.std.specs.Prelude.{◌≡◌, ◌↔◌, ◌∷◌, [], true, I
 ghost use Rattle.line_form.specs.Lines.{line_view};
 ghost use Rattle.line_form.specs.Number.{number_of};
 ghost use Rattle.period_keys.specs.Period.{year_of, quarter_of};
-ghost use Rattle.input_rules.specs.Requests.{kind_of, year_place as year_place_of, quarter_place as quarter_place_of, period_of, value_of, is_desk as is_desk_of, input_of_kind, request_of, fields_of_line};
+ghost use Rattle.input_rules.specs.Requests.{kind_of, year_place as year_place_of, quarter_place as quarter_place_of};
+ghost use Rattle.input_rules.specs.Requests.{period_of, value_of, is_desk as is_desk_of};
+ghost use Rattle.input_rules.specs.Requests.{input_of_kind, request_of, fields_of_line};
 ghost use Rattle.input_rules.specs.Views.{request_view};
 
 use crate::lines::Cause;
@@ -20,8 +22,8 @@ pub struct LineInput<'a> {
     pub kind: Kind,
     /// The name of the leaf: any bytes.
     pub name: &'a [u8],
-    /// The quarter from the start year's first on, or for a benchmark the year from the start year on, both from 0; none
-    /// where it lies outside the 64 years from the start year.
+    /// The quarter from the start year's first on, or for a benchmark the year from the start year on, both from 0;
+    /// none where it lies outside the 64 years from the start year.
     pub period: Option<u16>,
     /// The value, cut to 10^15 on either side.
     pub value: i64,
@@ -56,7 +58,8 @@ const DESKS: i128 = 16;
 pub fn line_fields(alloc: Global, line: &Line) -> Result<Option<Fields<'_>>, LineFault>
     ensures read { IfOk result (λ read. fields_of_line (line_view line.now) ≡ Ok read) }
     ensures long { (result ≡ Err LineFault.Long) ↔ (line.now.long ≡ true) }
-    ensures form { (result ≡ Err LineFault.Form) ↔ (fields_of_line (line_view line.now) ≡ Err Cause.Form) }
+    ensures form { (result ≡ Err LineFault.Form)
+        ↔ (fields_of_line (line_view line.now) ≡ Err Cause.Form) }
 {
     if is_passed_over(line) {
         return Ok(None);
@@ -67,8 +70,8 @@ pub fn line_fields(alloc: Global, line: &Line) -> Result<Option<Fields<'_>>, Lin
     }
 }
 
-/// What the fields of a line ask for, from a plan's start year on; `None` is the answer exactly where they have none of the
-/// forms.
+/// What the fields of a line ask for, from a plan's start year on; `None` is the answer exactly where they have none of
+/// the forms.
 ///
 /// An input has four fields: `ind`, `bench` or `price`; a name; a quarter, or a year for `bench`; and a number. A fifth
 /// one, a number from 1 to 16, is passed over. The other forms are `release`, `release,NAME`, `cert,NAME` and `sync`.
@@ -147,8 +150,8 @@ fn read_kind(word: &[u8]) -> Option<Kind>
     }
 }
 
-/// The place of the period that a field spells, none where it lies outside the 64 years; no place at all where the field
-/// spells no period of the kind.
+/// The place of the period that a field spells, none where it lies outside the 64 years; no place at all where the
+/// field spells no period of the kind.
 fn read_period(kind: Kind, start: u16, field: &[u8]) -> Option<Option<u16>>
     ensures { result ≡ period_of kind start field.now }
 {

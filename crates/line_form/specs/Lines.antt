@@ -1,5 +1,6 @@
 -- The lines of a stream of bytes, and how far a cutting of it has come.
-use Rattle.std.specs.Prelude.{ℕ, ◌+◌, ◌-◌, ◌^◌, ◌≡◌, Bool, true, false, not, ◌&&◌, ◌==◌, min, nat_le, if◌then◌else◌, List, [], ◌∷◌, ◌++◌, length, take, map}
+use Rattle.std.specs.Prelude.{ℕ, ◌+◌, ◌-◌, ◌^◌, ◌≡◌, Bool, true, false, not, ◌&&◌, ◌==◌, min, nat_le, if◌then◌else◌}
+use Rattle.std.specs.Prelude.{List, [], ◌∷◌, ◌++◌, length, take, map}
 use Rattle.csv.specs.Machine.{line_feed, carriage_return}
 use Rattle.csv.specs.Reading.{strip_bom}
 use Rattle.line_form.specs.declared.cutting.Line.{Line}
@@ -86,12 +87,13 @@ unfoldable pub number_after : ℕ → List (List ℕ) → ℕ
 number_after n [] = n
 number_after n (p ∷ ps) = number_after (next_number n) ps
 
--- the bytes that are kept of a line that isn't ended: three of a mark, a line's, a carriage return's, and one more, which makes it long
+-- the bytes that are kept of a line that isn't ended: three of a mark, a line's, a carriage return's, and one more,
+-- which makes it long
 abbrev pub kept_most : ℕ
 kept_most = 261
 
--- how far a stream is cut: the lines that wait, the number of the last line, the bytes kept of the line that isn't ended,
--- and whether the stream is
+-- how far a stream is cut: the lines that wait, the number of the last line, the bytes kept of the line that isn't
+-- ended, and whether the stream is
 pub record Cutting : Type 0 where
   pub waiting : List TextLine
   pub count : ℕ

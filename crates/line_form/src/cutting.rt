@@ -1,10 +1,13 @@
 // A stream of bytes, cut into lines.
 
-ghost use Rattle.std.specs.Prelude.{◌≡◌, ◌≤◌, ◌<◌, ◌+◌, ◌++◌, [], ◌∷◌, ℕ, List, false, true, take, drop, min, length, IfOk, IfSome, IfNone, OnOk, OnErr, option_map, vec_len};
+ghost use Rattle.std.specs.Prelude.{◌≡◌, ◌≤◌, ◌<◌, ◌+◌, ◌++◌, [], ◌∷◌, ℕ, List, false, true, take, drop, min, length};
+ghost use Rattle.std.specs.Prelude.{IfOk, IfSome, IfNone, OnOk, OnErr, option_map, vec_len};
 ghost use Rattle.std.specs.Option.{option_to_list};
 ghost use Rattle.std.specs.Vec.{vec_capacity};
 ghost use Rattle.csv.specs.Reading.{strip_bom};
-ghost use Rattle.line_form.specs.Lines.{TextLine, line_view, lines_view, ended_from, rest_from, without_return, line_at, unmarked, next_number, numbered, number_after, last_piece, kept_most, is_comment as is_comment_of, is_passed_over as is_passed_over_of};
+ghost use Rattle.line_form.specs.Lines.{TextLine, line_view, lines_view, ended_from, rest_from, without_return};
+ghost use Rattle.line_form.specs.Lines.{line_at, unmarked, next_number, numbered, number_after, last_piece};
+ghost use Rattle.line_form.specs.Lines.{kept_most, is_comment as is_comment_of, is_passed_over as is_passed_over_of};
 
 use memchr::memchr;
 use qna_base::Memory;
@@ -67,7 +70,12 @@ impl Model for Lines {
 
     ghost Value = { Cutting };
 
-    ghost view = { λ l. record { waiting = lines_view l.waiting.items; count = l.count; rest = l.rest.items; ended = l.ended } };
+    ghost view = { λ l. record {
+      waiting = lines_view l.waiting.items;
+      count = l.count;
+      rest = l.rest.items;
+      ended = l.ended;
+    } };
 
     ghost invariant = { λ l. (vec_len l.rest ≤ 261) × (261 ≤ vec_capacity l.rest) };
 }
@@ -95,7 +103,9 @@ impl Lines {
     /// was cut into pieces. Want of memory changes nothing, so the same piece may be fed again.
     pub fn feed(&mut self, piece: &[u8]) -> Result<(), Memory>
         requires { self.old.ended ≡ false }
-        ensures lines { (stream : List ℕ) (handed : List TextLine) → IsCutOf self.old stream handed → OnOk result (IsCutOf self.new (stream ++ piece.now) handed) }
+        ensures lines { (stream : List ℕ) (handed : List TextLine) →
+            IsCutOf self.old stream handed →
+            OnOk result (IsCutOf self.new (stream ++ piece.now) handed) }
         ensures goes_on { OnOk result (self.new.ended ≡ false) }
         ensures unchanged { OnErr result (self.new ≡ self.old) }
     {
@@ -127,7 +137,8 @@ impl Lines {
     /// changes nothing, so the stream may be finished again.
     pub fn finish(&mut self) -> Result<(), Memory>
         requires { self.old.ended ≡ false }
-        ensures lines { (stream : List ℕ) (handed : List TextLine) → IsCutOf self.old stream handed → OnOk result (IsCutOf self.new stream handed) }
+        ensures lines { (stream : List ℕ) (handed : List TextLine) →
+            IsCutOf self.old stream handed → OnOk result (IsCutOf self.new stream handed) }
         ensures ended { OnOk result (self.new.ended ≡ true) }
         ensures unchanged { OnErr result (self.new ≡ self.old) }
     {
@@ -139,9 +150,12 @@ impl Lines {
 
     /// Hands out the first line that waits; `None` is the answer exactly where none waits.
     pub fn next_line(&mut self) -> Option<Line>
-        ensures first { self.old.waiting ≡ option_to_list (option_map line_view result) ++ self.new.waiting }
+        ensures first { self.old.waiting
+            ≡ option_to_list (option_map line_view result) ++ self.new.waiting }
         ensures none { IfNone result (self.old.waiting ≡ []) }
-        ensures lines { (stream : List ℕ) (handed : List TextLine) → IsCutOf self.old stream handed → IsCutOf self.new stream (handed ++ option_to_list (option_map line_view result)) }
+        ensures lines { (stream : List ℕ) (handed : List TextLine) →
+            IsCutOf self.old stream handed →
+            IsCutOf self.new stream (handed ++ option_to_list (option_map line_view result)) }
         ensures ended { self.new.ended ≡ self.old.ended }
     {
         self.waiting.pop_front()
@@ -151,8 +165,10 @@ impl Lines {
 /// The bytes before the first line feed, and those after it.
 fn split_line(bytes: &[u8]) -> Option<(&[u8], &[u8])>
     ensures shorter { IfSome result (λ p. length p.1.now < length bytes.now) }
-    ensures found { IfSome result (λ p. (q : List ℕ) → ended_from q bytes.now ≡ (q ++ p.0.now) ∷ ended_from [] p.1.now) }
-    ensures after { IfSome result (λ p. (q : List ℕ) → rest_from q bytes.now ≡ rest_from [] p.1.now) }
+    ensures found { IfSome result (λ p. (q : List ℕ) →
+        ended_from q bytes.now ≡ (q ++ p.0.now) ∷ ended_from [] p.1.now) }
+    ensures after { IfSome result (λ p. (q : List ℕ) →
+        rest_from q bytes.now ≡ rest_from [] p.1.now) }
     ensures none { IfNone result ((q : List ℕ) → ended_from q bytes.now ≡ []) }
     ensures all { IfNone result ((q : List ℕ) → rest_from q bytes.now ≡ q ++ bytes.now) }
 {
@@ -228,7 +244,8 @@ fn add_line(
     number: u64,
     waiting: &mut VecDeque<Line>,
 ) -> Result<(), Memory>
-    ensures ok { OnOk result (lines_view waiting.new.items ≡ lines_view waiting.old.items ++ line_at number piece.now ∷ []) }
+    ensures ok { OnOk result (lines_view waiting.new.items
+        ≡ lines_view waiting.old.items ++ line_at number piece.now ∷ []) }
     ensures err { OnErr result (waiting.new.items ≡ waiting.old.items) }
     ensures kept { take (length waiting.old.items) waiting.new.items ≡ waiting.old.items }
 {
@@ -244,7 +261,8 @@ fn add_last(
     before: u64,
     waiting: &mut VecDeque<Line>,
 ) -> Result<(), Memory>
-    ensures ok { OnOk result (lines_view waiting.new.items ≡ lines_view waiting.old.items ++ numbered before (last_piece piece.now)) }
+    ensures ok { OnOk result (lines_view waiting.new.items
+        ≡ lines_view waiting.old.items ++ numbered before (last_piece piece.now)) }
     ensures err { OnErr result (waiting.new.items ≡ waiting.old.items) }
 {
     if piece.is_empty() {
@@ -262,8 +280,11 @@ fn cut<'a>(
     before: u64,
     waiting: &mut VecDeque<Line>,
 ) -> Result<(u64, &'a [u8]), Memory>
-    ensures waiting { OnOk result (lines_view waiting.new.items ≡ lines_view waiting.old.items ++ numbered before (unmarked before first.now ∷ ended_from [] after.now)) }
-    ensures count { IfOk result (λ p. p.0 ≡ number_after before (first.now ∷ ended_from [] after.now)) }
+    ensures waiting { OnOk result (lines_view waiting.new.items
+        ≡ lines_view waiting.old.items
+        ++ numbered before (unmarked before first.now ∷ ended_from [] after.now)) }
+    ensures count { IfOk result (λ p.
+        p.0 ≡ number_after before (first.now ∷ ended_from [] after.now)) }
     ensures rest { IfOk result (λ p. p.1.now ≡ rest_from [] after.now) }
     ensures kept { take (length waiting.old.items) waiting.new.items ≡ waiting.old.items }
 {

@@ -12,6 +12,3 @@ pub use names::is_name;
 pub use numbers::read_number;
 pub use reading::{LineFault, fields, plain_text_is_its_parts};
 pub use row::Fields;
-
-#[cfg(test)]
-mod tests;

@@ -36,7 +36,8 @@ pub enum LineFault {
 /// in it or `csv` reads no record from its bytes. A quote that is never closed ends with the line.
 pub fn fields(alloc: Global, line: &Line) -> Result<Fields<'_>, LineFault>
     ensures long { (result ≡ Err LineFault.Long) ↔ (line.now.long ≡ true) }
-    ensures form { (result ≡ Err LineFault.Form) ↔ ((line.now.long ≡ false) × (record_of line.now.text.items ≡ None)) }
+    ensures form { (result ≡ Err LineFault.Form)
+        ↔ ((line.now.long ≡ false) × (record_of line.now.text.items ≡ None)) }
     ensures read { IfOk result (λ f. record_of line.now.text.items ≡ Some f) }
 {
     if line.long {
@@ -52,10 +53,12 @@ pub fn fields(alloc: Global, line: &Line) -> Result<Fields<'_>, LineFault>
     read_by_csv(alloc, text)
 }
 
-/// A text in which no double quote, line feed or carriage return stands, and which doesn't begin with a byte order mark,
-/// reads as its parts between commas.
+/// A text in which no double quote, line feed or carriage return stands, and which doesn't begin with a byte order
+/// mark, reads as its parts between commas.
 pub fn plain_text_is_its_parts()
-    ensures { (text : List ℕ) → text ≢ [] → list_any is_special text ≡ false → strip_bom text ≡ text → csv_record text ≡ Some (parts_from [] text) }
+    ensures { (text : List ℕ) →
+        text ≢ [] → list_any is_special text ≡ false → strip_bom text ≡ text →
+        csv_record text ≡ Some (parts_from [] text) }
 {}
 
 /// Whether the bytes of a line are nothing but fields and commas: no quote and no line end stands in them, and they

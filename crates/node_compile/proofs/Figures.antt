@@ -10,21 +10,15 @@ use Rattle.std.proofs.lemmas.List.Elements.{All-map, All-drop, recursion_from_Al
 use Rattle.std.proofs.lemmas.List.FromFn.{length-map-range_with_len}
 use Rattle.aggregate_tree.specs.Leaves.{added, cells_at, longest}
 use Rattle.annual_overlap.specs.Years.{IsSizedCell}
-use Rattle.denton_parts.specs.Scale.{fits_scale, scale_of_years}
-use Rattle.denton_parts.specs.Year.{IsMultiplier}
-use Rattle.denton_parts.specs.Years.{years_of, indicators_of}
-use Rattle.denton_parts.specs.declared.year.YearPart.{YearPart}
-use Rattle.denton_parts.proofs.Reach.{value_small}
+use Rattle.denton_parts.specs.Scale.{scale_of_years}
+use Rattle.denton_parts.specs.Year.{BenchmarkedYear}
+use Rattle.denton_parts.specs.Years.{year_at, years_at}
 use Rattle.denton_parts.proofs.Scales.{scale_least}
 use Rattle.denton_solve.specs.Conditions.{AreMultipliers}
-use Rattle.denton_solve.specs.Series.{series_of}
 use Rattle.denton_solve.specs.Sweeps.{sweep_of, iterated, no_multipliers, multipliers_of}
 use Rattle.denton_solve.proofs.Pairs.{zeros_small}
-use Rattle.denton_solve.proofs.Scaled.{scaled, greatest_most}
+use Rattle.denton_solve.proofs.Scaled.{scaled, scale_most}
 use Rattle.denton_solve.proofs.Steps.{sweep_of-sizes}
-use Rattle.denton_solve.proofs.Values.{series_within, indicators_most}
-use Rattle.extrapolate.specs.Carried.{carried_of}
-use Rattle.extrapolate.proofs.Carrying.{all_within}
 use Rattle.price_base.specs.declared.Cell.{Cell}
 use Rattle.price_base.specs.declared.Cell.TheVariants.{Missing, Value, NoBase, NoLink, Range}
 use Rattle.price_base.specs.Cells.{cell_at, combined, total, is_missing, is_no_base, is_range, IsFlow}
@@ -40,106 +34,107 @@ use Rattle.series_tables.specs.declared.input.Kind.{Kind}
 use Rattle.series_tables.specs.declared.input.Kind.TheVariants.{Indicator, Benchmark, Price}
 use Rattle.node_compile.specs.Items.{AreItemCells, IsKnownItem}
 use Rattle.node_compile.specs.Laws.{MeetsItsBenchmarks, IsWithinItsGap}
-use Rattle.node_compile.specs.Leaf.{benchmark_run, run_values, table_of_years, leaf_table}
+use Rattle.node_compile.specs.Leaf.{places_from, present_benchmarks, run_values, table_of_years, leaf_table}
 use Rattle.node_compile.specs.Release.{table_of_leaf, inner_table, values_of_leaves, volumes_of_leaves, item_table}
-use Rattle.node_compile.specs.Sizes.{AreInRange, AreItemsSized, AreLeavesSized}
+use Rattle.node_compile.specs.Sizes.{AreBelow, AreInRange, AreItemsSized, AreLeavesSized}
 use Rattle.node_compile.specs.Table.{Table}
 use Rattle.node_compile.proofs.Items.{cells_count}
 use Rattle.node_compile.proofs.Leaves.{leaf_values_flow, leaf_volumes_flow}
-use Rattle.node_compile.proofs.Runs.{run_count, years_count}
-use Rattle.node_compile.proofs.Sizes.{values_below, values_sized, volumes_sized, missing_sized, wider}
+use Rattle.node_compile.proofs.Behind.{Reach, values_count, values_reach}
+use Rattle.node_compile.proofs.Sizes.{values_sized, volumes_sized, missing_sized, wider}
 use Rattle.node_compile.proofs.Tree.{cell_sized, leaf_of_itself, sized_everywhere}
-use Rattle.node_compile.proofs.Worth.{leaf_worth, run_values_count}
+use Rattle.node_compile.proofs.Values.{values_below}
+use Rattle.node_compile.proofs.Worth.{IsRun, leaf_is_run, years_range, years_from, leaf_worth}
 
 -- ---- the values of a run
 
 -- multipliers are in range after any number of sweeps
-swept_small : (k : ℕ) (years : List YearPart) (n : ℕ) (u : List ℤ) → AreMultipliers u → AreMultipliers (iterated n (sweep_of k years) u)
+swept_small : (k : ℕ) (years : List BenchmarkedYear) (n : ℕ) (u : List ℤ) → AreMultipliers u → AreMultipliers (iterated n (sweep_of k years) u)
 unfolding iterated
 swept_small k years zero u small = small
 swept_small k years (suc n) u small = sweep_of-sizes k years (iterated n (sweep_of k years) u)
 
-multipliers_small : (k : ℕ) (years : List YearPart) → AreMultipliers (multipliers_of k years)
+pub multipliers_small : (k : ℕ) (years : List BenchmarkedYear) → AreMultipliers (multipliers_of k years)
 unfolding multipliers_of
 multipliers_small k years = swept_small k years 192 (no_multipliers years) (zeros_small (length years - 1))
 
--- so is the one before any year
-before_small : (u : List ℤ) (y : ℕ) → AreMultipliers u → IsMultiplier (get_or (pos 0 ∷ u) y (pos 0))
-before_small u zero small = omega arith
-before_small u (suc y) small = elim (cases_lt y (length u)) [
-  | inl inside ↦ small y inside
-  | inr past ↦ subst IsMultiplier (sym (get_or_past u y (pos 0) past)) (omega arith)
-]
+-- the values of a run of quarters, with the multipliers of its years at their scale, reach no further than their
+-- indicators times 8 * 10^15
+pub run_reach : (indicators places : List ℕ) (benchmarks : List ℤ) (place : ℕ) (benchmark : ℤ) →
+    IsRun indicators (place ∷ places) (benchmark ∷ benchmarks) →
+    let years : List BenchmarkedYear = years_at indicators (place ∷ places) (benchmark ∷ benchmarks) in
+    Reach (scale_of_years years) indicators
+    (run_values (scale_of_years years) years (multipliers_of (scale_of_years years) years) indicators)
+run_reach indicators places benchmarks place benchmark run =
+    let year : BenchmarkedYear = year_at indicators place benchmark in
+    let later : List BenchmarkedYear = years_at indicators places benchmarks in
+    let k : ℕ = scale_of_years (year ∷ later) in
+    let range = years_range indicators (place ∷ places) (benchmark ∷ benchmarks) run in
+    values_reach k year later (multipliers_of k (year ∷ later)) indicators
+    (years_from indicators places benchmarks place benchmark run) (record {
+      scale = scale_most (year ∷ later);
+      scaled = scaled (year ∷ later) range;
+      range = range;
+      multipliers = multipliers_small k (year ∷ later);
+      each = run.each_indicator;
+    })
 
--- the values of a run of quarters are below 10^24 in size
-run_small : (years : List YearPart) (indicators : List ℕ) → All IsPositiveInRange indicators → All (λ value. unsigned_abs value < 10 ^ 24) (run_values (scale_of_years years) years (multipliers_of (scale_of_years years) years) indicators)
-run_small [] indicators range = λ t d inside. absurd (omega arith)
-run_small (year ∷ years) indicators range = values_below (series_of k (year ∷ years) u) (carried_of k last left rest) benchmarked carried
-  where
-    k : ℕ
-    k = scale_of_years (year ∷ years)
-
-    u : List ℤ
-    u = multipliers_of (scale_of_years (year ∷ years)) (year ∷ years)
-
-    last : YearPart
-    last = get_or (year ∷ years) (length years) year
-
-    left : ℤ
-    left = get_or (pos 0 ∷ multipliers_of (scale_of_years (year ∷ years)) (year ∷ years)) (length years) (pos 0)
-
-    rest : List ℕ
-    rest = drop (4 * length (year ∷ years)) indicators
-
-    most : scale_of_years (year ∷ years) ≤ 15
-    most = greatest_most 15 (λ k. list_all (fits_scale k) (year ∷ years))
-
-    small : AreMultipliers (multipliers_of (scale_of_years (year ∷ years)) (year ∷ years))
-    small = multipliers_small (scale_of_years (year ∷ years)) (year ∷ years)
-
-    later : All IsPositiveInRange (drop (4 * length (year ∷ years)) indicators)
-    later = All-drop IsPositiveInRange (4 * length (year ∷ years)) indicators range
-
-    benchmarked : EachIndex (series_of k (year ∷ years) u) (λ t. unsigned_abs (get_or (series_of k (year ∷ years) u) t (pos 0)) < 10 ^ 24)
-    benchmarked t inside = value_small k (slice_index (indicators_of (year ∷ years)) t) (get_or (series_of k (year ∷ years) u) t (pos 0)) (scale_least (year ∷ years)) (indicators_most (year ∷ years) t)
-        (series_within k (year ∷ years) u most (scaled (year ∷ years)) small t inside)
-
-    carried : EachIndex (carried_of k last left rest) (λ t. unsigned_abs (get_or (carried_of k last left rest) t (pos 0)) < 10 ^ 24)
-    carried t inside =
-        let far = all_within k last left (carried_of k last left rest) rest refl most (scaled (year ∷ years) (length years) year (omega arith)) (before_small u (length years) small) (λ t below. later t 0 below) t inside in
-        value_small k (slice_index rest t) (get_or (carried_of k last left rest) t (pos 0)) (scale_least (year ∷ years)) (indicator_most t) far
-      where
-        indicator_most : (t : ℕ) → slice_index rest t ≤ 10 ^ 9
-        indicator_most t = elim (cases_lt t (length rest)) [
-          | inl inside ↦ (later t 0 inside).1
-          | inr past ↦ subst (λ (i : ℕ). i ≤ 10 ^ 9) (sym (get_or_past rest t 0 past)) (omega arith)
-        ]
+-- so they are below 10^24 in size
+run_small : (indicators places : List ℕ) (benchmarks : List ℤ) (place : ℕ) (benchmark : ℤ) →
+    IsRun indicators (place ∷ places) (benchmark ∷ benchmarks) →
+    let years : List BenchmarkedYear = years_at indicators (place ∷ places) (benchmark ∷ benchmarks) in
+    AreBelow (run_values (scale_of_years years) years (multipliers_of (scale_of_years years) years) indicators)
+run_small indicators places benchmarks place benchmark run =
+    let years : List BenchmarkedYear = years_at indicators (place ∷ places) (benchmark ∷ benchmarks) in
+    values_below (scale_of_years years) indicators _
+    (scale_least years (years_range indicators (place ∷ places) (benchmark ∷ benchmarks) run)) run.each_indicator
+    (run_reach indicators places benchmarks place benchmark run)
 
 -- ---- the cells of a leaf
 
 -- the values of a leaf are below 10^24
-values_of_years_sized : (indicators : List ℕ) (prices : List (Option ℕ)) (benchmarks : List ℤ) (reference : ℕ) (years : List YearPart) → All IsPositiveInRange indicators → All (IsSizedCell (10 ^ 24 - 1)) (table_of_years indicators prices benchmarks reference years).value
-values_of_years_sized indicators prices benchmarks reference [] range = missing_sized (10 ^ 24 - 1) (length indicators) _ refl
-values_of_years_sized indicators prices benchmarks reference (year ∷ years) range = values_sized _ _ refl (run_small (year ∷ years) indicators range)
+values_of_years_sized : (indicators : List ℕ) (prices : List (Option ℕ)) (reference : ℕ) (places : List ℕ)
+    (benchmarks : List ℤ) → IsRun indicators places benchmarks →
+    All (IsSizedCell (10 ^ 24 - 1)) (table_of_years indicators prices reference places benchmarks).value
+values_of_years_sized indicators prices reference [] benchmarks run =
+    missing_sized (10 ^ 24 - 1) (length indicators) _ refl
+values_of_years_sized indicators prices reference (place ∷ places) [] run =
+    absurd (let same = run.placed in omega arith)
+values_of_years_sized indicators prices reference (place ∷ places) (benchmark ∷ benchmarks) run =
+    values_sized _ _ refl (run_small indicators places benchmarks place benchmark run)
 
 -- and its volumes within 10^15
-volumes_of_years_sized : (indicators : List ℕ) (prices : List (Option ℕ)) (benchmarks : List ℤ) (reference : ℕ) (years : List YearPart) → All (IsSizedCell (10 ^ 15)) (table_of_years indicators prices benchmarks reference years).prev
-volumes_of_years_sized indicators prices benchmarks reference [] = missing_sized (10 ^ 15) (length indicators) _ refl
-volumes_of_years_sized indicators prices benchmarks reference (year ∷ years) = volumes_sized _ prices _ refl
+volumes_of_years_sized : (indicators : List ℕ) (prices : List (Option ℕ)) (reference : ℕ) (places : List ℕ)
+    (benchmarks : List ℤ) → All (IsSizedCell (10 ^ 15)) (table_of_years indicators prices reference places benchmarks).prev
+volumes_of_years_sized indicators prices reference [] benchmarks = missing_sized (10 ^ 15) (length indicators) _ refl
+volumes_of_years_sized indicators prices reference (place ∷ places) benchmarks = volumes_sized _ prices _ refl
 
 -- there are as many as quarters of the run
-values_of_years_count : (indicators : List ℕ) (prices : List (Option ℕ)) (benchmarks : List ℤ) (reference : ℕ) (years : List YearPart) → 4 * length years ≤ length indicators → length (table_of_years indicators prices benchmarks reference years).value ≡ length indicators
-values_of_years_count indicators prices benchmarks reference [] room = length-replicate (length indicators) Missing
-values_of_years_count indicators prices benchmarks reference (year ∷ years) room =
-    length-map (run_values (scale_of_years (year ∷ years)) (year ∷ years) (multipliers_of (scale_of_years (year ∷ years)) (year ∷ years)) indicators) Value
-    ∙ run_values_count (scale_of_years (year ∷ years)) year years (multipliers_of (scale_of_years (year ∷ years)) (year ∷ years)) indicators room
+values_of_years_count : (indicators : List ℕ) (prices : List (Option ℕ)) (reference : ℕ) (places : List ℕ)
+    (benchmarks : List ℤ) → IsRun indicators places benchmarks →
+    length (table_of_years indicators prices reference places benchmarks).value ≡ length indicators
+values_of_years_count indicators prices reference [] benchmarks run = length-replicate (length indicators) Missing
+values_of_years_count indicators prices reference (place ∷ places) [] run =
+    absurd (let same = run.placed in omega arith)
+values_of_years_count indicators prices reference (place ∷ places) (benchmark ∷ benchmarks) run =
+    let years : List BenchmarkedYear = years_at indicators (place ∷ places) (benchmark ∷ benchmarks) in
+    let k : ℕ = scale_of_years years in
+    length-map (run_values k years (multipliers_of k years) indicators) Value
+    ∙ (run_reach indicators places benchmarks place benchmark run).count
 
-volumes_of_years_count : (indicators : List ℕ) (prices : List (Option ℕ)) (benchmarks : List ℤ) (reference : ℕ) (years : List YearPart) → 4 * length years ≤ length indicators → length (table_of_years indicators prices benchmarks reference years).prev ≡ length indicators
+volumes_of_years_count : (indicators : List ℕ) (prices : List (Option ℕ)) (reference : ℕ) (places : List ℕ)
+    (benchmarks : List ℤ) → IsRun indicators places benchmarks →
+    length (table_of_years indicators prices reference places benchmarks).prev ≡ length indicators
 unfolding volumes_of
-volumes_of_years_count indicators prices benchmarks reference [] room = length-replicate (length indicators) Missing
-volumes_of_years_count indicators prices benchmarks reference (year ∷ years) room =
-    let values : List ℤ = run_values (scale_of_years (year ∷ years)) (year ∷ years) (multipliers_of (scale_of_years (year ∷ years)) (year ∷ years)) indicators in
-    length-map-range_with_len (volume_at values prices) 0 (length values) ∙ run_values_count (scale_of_years (year ∷ years)) year years (multipliers_of (scale_of_years (year ∷ years)) (year ∷ years)) indicators room
+volumes_of_years_count indicators prices reference [] benchmarks run = length-replicate (length indicators) Missing
+volumes_of_years_count indicators prices reference (place ∷ places) [] run =
+    absurd (let same = run.placed in omega arith)
+volumes_of_years_count indicators prices reference (place ∷ places) (benchmark ∷ benchmarks) run =
+    let years : List BenchmarkedYear = years_at indicators (place ∷ places) (benchmark ∷ benchmarks) in
+    let k : ℕ = scale_of_years years in
+    let values : List ℤ = run_values k years (multipliers_of k years) indicators in
+    length-map-range_with_len (volume_at values prices) 0 (length values)
+    ∙ (run_reach indicators places benchmarks place benchmark run).count
 
 -- the values of a run are in range where each that stands there is
 run_range : (value_at : ℕ → Option ℤ) → ((period : ℕ) (value : ℤ) → value_at period ≡ Some value → (pos 1 ≤ℤ value) × (value ≤ℤ pos (10 ^ 9))) → (more from : ℕ) → All IsPositiveInRange (map unsigned_abs (run_from value_at more from))
@@ -189,20 +184,23 @@ leaf_known value_at reference leaf range =
     let indicators : List ℕ = map unsigned_abs run in
     let prices : List (Option ℕ) = map (option_map unsigned_abs) (cells_from (value_at Price leaf) (length run) 0) in
     let bench : List (Option ℤ) = cells_from (value_at Benchmark leaf) (length run / 4) 0 in
-    let years : List YearPart = years_of indicators (benchmark_run bench) in
+    let places : List ℕ = places_from 0 bench in
+    let given : List ℤ = present_benchmarks bench in
     let same : length indicators ≡ length run = length-map run unsigned_abs in
     let short : length run ≤ 256 = run_few (value_at Indicator leaf) 256 0 in
-    let all : All IsPositiveInRange indicators = run_range (value_at Indicator leaf) (λ period value. range Indicator leaf period value) 256 0 in
-    let own : All IsBenchmarkOrNone bench = benchmarks_range (value_at Benchmark leaf) (λ period value. range Benchmark leaf period value) (length run / 4) 0 in
-    let cells : length bench ≡ length run / 4 = cells_count (value_at Benchmark leaf) (length run / 4) 0 in
-    let room : 4 * length (benchmark_run bench) ≤ length indicators = grind (arith, run_count bench, cells, same) in
-    let count : length years ≡ length (benchmark_run bench) = years_count indicators (benchmark_run bench) room in
+    let all : All IsPositiveInRange indicators =
+    run_range (value_at Indicator leaf) (λ period value. range Indicator leaf period value) 256 0 in
+    let own : All IsBenchmarkOrNone bench =
+    benchmarks_range (value_at Benchmark leaf) (λ period value. range Benchmark leaf period value) (length run / 4) 0 in
+    let cells : length bench ≡ length indicators / 4 =
+    cells_count (value_at Benchmark leaf) (length run / 4) 0 ∙ sym (ap (λ (n : ℕ). n / 4) same) in
+    let is : IsRun indicators places given = leaf_is_run indicators bench all own cells in
     record {
-      few = omega (arith, values_of_years_count indicators prices (benchmark_run bench) reference years (omega (arith, room, count)), same, short);
-      as_few = omega (arith, volumes_of_years_count indicators prices (benchmark_run bench) reference years (omega (arith, room, count)), same, short);
-      below = values_of_years_sized indicators prices (benchmark_run bench) reference years all;
-      within = volumes_of_years_sized indicators prices (benchmark_run bench) reference years;
-      worth = leaf_worth indicators prices bench reference all own (cells ∙ sym (ap (λ (n : ℕ). n / 4) same));
+      few = omega (arith, values_of_years_count indicators prices reference places given is, same, short);
+      as_few = omega (arith, volumes_of_years_count indicators prices reference places given is, same, short);
+      below = values_of_years_sized indicators prices reference places given is;
+      within = volumes_of_years_sized indicators prices reference places given;
+      worth = leaf_worth indicators prices bench reference all own cells;
     }
 
 -- so much is known of its cells

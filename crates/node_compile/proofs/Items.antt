@@ -13,7 +13,7 @@ use Rattle.series_tables.specs.Plan.{PlanShape, is_leaf}
 use Rattle.series_tables.specs.declared.input.Input.{Input}
 use Rattle.series_tables.specs.declared.input.Kind.{Kind}
 use Rattle.series_tables.specs.declared.input.Kind.TheVariants.{Indicator, Benchmark, Price}
-use Rattle.node_compile.specs.Leaf.{benchmark_run, leaf_table}
+use Rattle.node_compile.specs.Leaf.{joints_in, leaf_table}
 use Rattle.node_compile.specs.Release.{joints_of, most_steps, table_of_leaf, item_table, item_tables, compilation}
 use Rattle.node_compile.specs.Table.{Table}
 
@@ -55,8 +55,8 @@ leaf_is_item value_at plan item leaf = rw leaf refl
 
 -- and so are its joints
 pub input_joints : (value_at : Kind → ℕ → ℕ → Option ℤ) (plan : PlanShape) (item : ℕ) (indicators : List ℕ) (prices : List (Option ℕ)) (benchmarks : List (Option ℤ)) → is_leaf plan item ≡ true → IsInputOf (λ kind period. value_at kind item period) indicators prices benchmarks
-    → length (benchmark_run benchmarks) - 1 ≡ joints_of value_at plan item
-input_joints value_at plan item indicators prices benchmarks leaf input = rw leaf (ap (λ (bs : List (Option ℤ)). length (benchmark_run bs) - 1) (same_benchmarks (λ kind period. value_at kind item period) indicators prices benchmarks input))
+    → joints_in benchmarks ≡ joints_of value_at plan item
+input_joints value_at plan item indicators prices benchmarks leaf input = rw leaf (ap joints_in (same_benchmarks (λ kind period. value_at kind item period) indicators prices benchmarks input))
 
 -- the most steps of the items from one on, so many of them
 abbrev pub steps_of : (Kind → ℕ → ℕ → Option ℤ) → PlanShape → ℕ → ℕ → ℕ

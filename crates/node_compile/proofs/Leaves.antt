@@ -6,7 +6,6 @@ use Rattle.std.proofs.lemmas.Simd.{map-map}
 use Rattle.std.proofs.lemmas.List.Elements.{All-map, All-replicate}
 use Rattle.aggregate_tree.specs.Leaves.{added}
 use Rattle.aggregate_tree.proofs.Adding.{sum_over_leaves}
-use Rattle.denton_parts.specs.declared.year.YearPart.{YearPart}
 use Rattle.price_base.specs.declared.Base.{Base}
 use Rattle.price_base.specs.declared.Cell.{Cell}
 use Rattle.price_base.specs.declared.Cell.TheVariants.{Missing, Value, NoBase, Range}
@@ -31,9 +30,10 @@ value_flow number e = cc
 missing_flow : IsFlow Missing
 missing_flow e = cc
 
-values_of_years_flow : (indicators : List ℕ) (prices : List (Option ℕ)) (benchmarks : List ℤ) (reference : ℕ) (years : List YearPart) → All IsFlow (table_of_years indicators prices benchmarks reference years).value
-values_of_years_flow indicators prices benchmarks reference [] = All-replicate IsFlow (length indicators) Missing missing_flow
-values_of_years_flow indicators prices benchmarks reference (year ∷ years) = All-map IsFlow Value _ (λ k d below. value_flow _)
+values_of_years_flow : (indicators : List ℕ) (prices : List (Option ℕ)) (reference : ℕ) (places : List ℕ)
+    (benchmarks : List ℤ) → All IsFlow (table_of_years indicators prices reference places benchmarks).value
+values_of_years_flow indicators prices reference [] benchmarks = All-replicate IsFlow (length indicators) Missing missing_flow
+values_of_years_flow indicators prices reference (place ∷ places) benchmarks = All-map IsFlow Value _ (λ k d below. value_flow _)
 
 within_flow : (small : Bool) (volume : ℤ) → IsFlow (cond small (Value volume) Range)
 within_flow true volume e = cc
@@ -55,19 +55,20 @@ volumes_flow values prices = All-map IsFlow (volume_at values prices) (range_wit
     let t : ℕ = get_or (range_with_len 0 (length values)) k d in
     volume_flow (base_at values prices (base_start t)) (sold_at values prices t))
 
-volumes_of_years_flow : (indicators : List ℕ) (prices : List (Option ℕ)) (benchmarks : List ℤ) (reference : ℕ) (years : List YearPart) → All IsFlow (table_of_years indicators prices benchmarks reference years).prev
-volumes_of_years_flow indicators prices benchmarks reference [] = All-replicate IsFlow (length indicators) Missing missing_flow
-volumes_of_years_flow indicators prices benchmarks reference (year ∷ years) = volumes_flow _ prices
+volumes_of_years_flow : (indicators : List ℕ) (prices : List (Option ℕ)) (reference : ℕ) (places : List ℕ)
+    (benchmarks : List ℤ) → All IsFlow (table_of_years indicators prices reference places benchmarks).prev
+volumes_of_years_flow indicators prices reference [] benchmarks = All-replicate IsFlow (length indicators) Missing missing_flow
+volumes_of_years_flow indicators prices reference (place ∷ places) benchmarks = volumes_flow _ prices
 
 -- no value of a leaf is the mark of a link
 pub leaf_values_flow : (value_at : Kind → ℕ → ℕ → Option ℤ) (reference leaf : ℕ) → All IsFlow (table_of_leaf value_at reference leaf).value
 unfolding leaf_table
-leaf_values_flow value_at reference leaf = values_of_years_flow _ _ _ reference _
+leaf_values_flow value_at reference leaf = values_of_years_flow _ _ reference _ _
 
 -- nor is a volume
 pub leaf_volumes_flow : (value_at : Kind → ℕ → ℕ → Option ℤ) (reference leaf : ℕ) → All IsFlow (table_of_leaf value_at reference leaf).prev
 unfolding leaf_table
-leaf_volumes_flow value_at reference leaf = volumes_of_years_flow _ _ _ reference _
+leaf_volumes_flow value_at reference leaf = volumes_of_years_flow _ _ reference _ _
 
 -- adding up an inner item's children is adding up the leaves under it
 over_children : (g : Table → List Cell) (value_at : Kind → ℕ → ℕ → Option ℤ) (plan : PlanShape) (item : ℕ) → item < length plan.parents → list_any (is_parent item) (drop (suc item) plan.parents) ≡ true

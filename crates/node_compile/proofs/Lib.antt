@@ -1,12 +1,16 @@
+pub mod Behind
 pub mod Figures
+pub mod Filling
 pub mod Items
 pub mod Leaves
 pub mod Links
 pub mod Outcomes
+pub mod Places
 pub mod Runs
 pub mod Sent
 pub mod Sizes
+pub mod Standing
+pub mod Tree
 pub mod Values
 pub mod Worked
 pub mod Worth
-pub mod Tree

@@ -13,19 +13,7 @@ use Rattle.ratio_arith.specs.Division.{round_of}
 use Rattle.series_tables.specs.Ranges.{IsPositiveOrNone}
 use Rattle.node_compile.specs.Leaf.{missing}
 
--- the values of a year, and those carried past the last, are below 10^24 in size
-pub values_below : (xs ys : List ℤ) → EachIndex xs (λ t. unsigned_abs (get_or xs t (pos 0)) < 10 ^ 24) → EachIndex ys (λ t. unsigned_abs (get_or ys t (pos 0)) < 10 ^ 24) →
-    All (λ value. unsigned_abs value < 10 ^ 24) (xs ++ ys)
-values_below [] ys one two t d inside = value_at ys t d inside (two t inside)
-  where
-    value_at : (values : List ℤ) (t : ℕ) (d : ℤ) → t < length values → unsigned_abs (get_or values t (pos 0)) < 10 ^ 24 → unsigned_abs (get_or values t d) < 10 ^ 24
-    value_at [] t d inside h = absurd (omega arith)
-    value_at (value ∷ values) zero d inside h = h
-    value_at (value ∷ values) (suc t) d inside h = value_at values t d (omega arith) h
-values_below (x ∷ xs) ys one two zero d inside = one 0 (omega arith)
-values_below (x ∷ xs) ys one two (suc t) d inside = values_below xs ys (λ k below. one (suc k) (omega arith)) two t d (omega arith)
-
--- and so are they as cells
+-- values below 10^24 in size are so as cells
 pub values_sized : (values : List ℤ) (cells : List Cell) → cells ≡ map Value values → All (λ value. unsigned_abs value < 10 ^ 24) values → All (IsSizedCell (10 ^ 24 - 1)) cells
 values_sized values cells e each = subst (λ (cells : List Cell). All (IsSizedCell (10 ^ 24 - 1)) cells) (sym e) (All-map (IsSizedCell (10 ^ 24 - 1)) Value values (λ t d inside. let below = each t d inside in omega arith))
 

@@ -1,20 +1,17 @@
 -- Why a leaf's values meet the benchmarks and are within the gap of its table.
-use Rattle.std.specs.Prelude.{◌≡◌, ℕ, ◌+◌, ◌-◌, ◌*◌, ◌^◌, ◌/◌, ◌≤◌, ℤ, pos, List, [], ◌∷◌, ◌++◌, map, length, drop, slice_index, EachIndex, All, Option, Some, None}
-use Rattle.std.proofs.Common.{refl, sym, ◌∙◌, ap, arith, get_or, subst, length-append, length-drop}
-use Rattle.std.proofs.lemmas.List.{length-map, get_or_default}
+use Rattle.std.specs.Prelude.{◌≡◌, ℕ, ◌+◌, ◌-◌, ◌*◌, ◌^◌, ◌/◌, ◌≤◌, ℤ, pos, List, [], ◌∷◌, map, length, All, Option, Some, None}
+use Rattle.std.proofs.Common.{refl, sym, ◌∙◌, ap, arith, subst}
 use Rattle.denton_parts.specs.Benchmarks.{MeetsBenchmarks}
 use Rattle.denton_parts.specs.Changes.{changes}
 use Rattle.denton_parts.specs.Gap.{gap_by}
 use Rattle.denton_parts.specs.Ratios.{IsWithinGap}
 use Rattle.denton_parts.specs.Scale.{scale_of_years}
-use Rattle.denton_parts.specs.Years.{years_of, benchmarks_of}
-use Rattle.denton_parts.specs.declared.year.YearPart.{YearPart}
-use Rattle.denton_solve.specs.Sweeps.{multipliers_of}
-use Rattle.denton_solve.specs.Series.{series_of}
+use Rattle.denton_parts.specs.Year.{BenchmarkedYear}
+use Rattle.denton_parts.specs.Years.{ArePlaces, AreYearsOf, year_at, years_at}
+use Rattle.denton_parts.proofs.Places.{AreInRange, run_in_range, years_of_run, years_at-length}
+use Rattle.denton_solve.specs.Sweeps.{multipliers_of, IsEnough}
 use Rattle.denton_solve.proofs.Pairs.{multipliers_count}
-use Rattle.denton_solve.proofs.Values.{series_meets, series_count}
 use Rattle.dual_cert.proofs.Whole.{within_gap}
-use Rattle.extrapolate.specs.Carried.{carried, carried_of}
 use Rattle.price_base.specs.declared.Cell.{Cell}
 use Rattle.price_base.specs.declared.Cell.TheVariants.{Value}
 use Rattle.price_base.specs.Volumes.{volumes_of}
@@ -23,51 +20,50 @@ use Rattle.node_compile.specs.Laws.{numbers_in, MeetsItsBenchmarks, IsWithinItsG
 use Rattle.annual_overlap.proofs.Laws.{chain_within_drift, chain_adds_up}
 use Rattle.annual_overlap.specs.Table.{chain_of}
 use Rattle.node_compile.specs.Table.{Certificate}
-use Rattle.node_compile.specs.Leaf.{missing, certificate_of, benchmark_run, run_values, chained_table, table_of_years, leaf_table}
+use Rattle.node_compile.specs.Leaf.{AreBenchmarks, AreEnough, benchmarked_years, joints_in, places_from, present_benchmarks, missing, missing_table, certificate_of, run_values, chained_table, table_of_years, leaf_table}
+use Rattle.node_compile.proofs.Behind.{AreFrom, AreIndicatorsOf, are_from, values_count, values_meet}
 use Rattle.node_compile.proofs.Links.{chain_linked}
-use Rattle.node_compile.proofs.Runs.{run_each, run_count, years_count, years_benchmarks}
+use Rattle.node_compile.proofs.Places.{places_stand, present_count, present_few, present_each}
 
--- what follows the benchmarked years changes nothing
-meets_before : (benchmarks : List ℤ) (n : ℤ) (xs ys : List ℤ) → MeetsBenchmarks benchmarks n xs → MeetsBenchmarks benchmarks n (xs ++ ys)
-meets_before [] n xs ys meets = tt
-meets_before (benchmark ∷ later) n (a ∷ b ∷ c ∷ d ∷ xs) ys meets = (meets.0, meets_before later n xs ys meets.1)
-meets_before (benchmark ∷ later) n [] ys meets = absurd meets
-meets_before (benchmark ∷ later) n (a ∷ []) ys meets = absurd meets
-meets_before (benchmark ∷ later) n (a ∷ b ∷ []) ys meets = absurd meets
-meets_before (benchmark ∷ later) n (a ∷ b ∷ c ∷ []) ys meets = absurd meets
+-- ---- the years of a run
 
--- the values of a run meet the benchmarks
-pub run_meets : (k : ℕ) (years : List YearPart) (u : List ℤ) (indicators : List ℕ) → MeetsBenchmarks (benchmarks_of years) (pos 1) (run_values k years u indicators)
-run_meets k [] u indicators = tt
-run_meets k (year ∷ years) u indicators = meets_before (benchmarks_of (year ∷ years)) (pos 1) (series_of k (year ∷ years) u) (carried_of k (get_or (year ∷ years) (length years) year) (get_or (pos 0 ∷ u) (length years) (pos 0)) (drop (4 * length (year ∷ years)) indicators)) (series_meets k (year ∷ years) u)
+-- what is known of a run with benchmarked years
+pub record IsRun (indicators places : List ℕ) (benchmarks : List ℤ) : Type 0 where
+  pub placed : length places ≡ length benchmarks
+  pub whole_years : ArePlaces (length indicators) places
+  pub each_indicator : AreIndicatorsOf indicators
+  pub each_benchmark : AreBenchmarks benchmarks
 
--- as many values are carried as there are indicators
-carried_count : (k : ℕ) (last : YearPart) (left : ℤ) (indicators : List ℕ) → length (carried_of k last left indicators) ≡ length indicators
-unfolding carried_of
-carried_count k last left indicators = length-map indicators (carried k last left)
+-- the run of a leaf's input is so
+pub leaf_is_run : (indicators : List ℕ) (benchmarks : List (Option ℤ)) → All IsPositiveInRange indicators →
+    All IsBenchmarkOrNone benchmarks → length benchmarks ≡ length indicators / 4 →
+    IsRun indicators (places_from 0 benchmarks) (present_benchmarks benchmarks)
+leaf_is_run indicators benchmarks each_indicator each_benchmark years = record {
+  placed = present_count 0 benchmarks;
+  whole_years = places_stand benchmarks (length indicators) (omega arith);
+  each_indicator = λ t inside. each_indicator t 0 inside;
+  each_benchmark = present_each benchmarks each_benchmark;
+}
 
--- a run has a value for each indicator
-pub run_values_count : (k : ℕ) (year : YearPart) (years : List YearPart) (u : List ℤ) (indicators : List ℕ) → 4 * length (year ∷ years) ≤ length indicators → length (run_values k (year ∷ years) u indicators) ≡ length indicators
-run_values_count k year years u indicators room =
-    let later : List ℤ = carried_of k (get_or (year ∷ years) (length years) year) (get_or (pos 0 ∷ u) (length years) (pos 0)) (drop (4 * length (year ∷ years)) indicators) in
-    let first = series_count k (year ∷ years) u in
-    let second : length later ≡ length (drop (4 * length (year ∷ years)) indicators) = carried_count k (get_or (year ∷ years) (length years) year) (get_or (pos 0 ∷ u) (length years) (pos 0)) (drop (4 * length (year ∷ years)) indicators) in
-    omega (arith, length-append (series_of k (year ∷ years) u) later, length-drop (4 * length (year ∷ years)) indicators)
+-- its benchmarked years are years of it, and their numbers are in range
+pub years_are : (indicators places : List ℕ) (benchmarks : List ℤ) → IsRun indicators places benchmarks →
+    AreYearsOf indicators (years_at indicators places benchmarks)
+years_are indicators places benchmarks run = years_of_run indicators places benchmarks run.placed run.whole_years
 
--- the values of a run, put together from the series and what is carried past it
-pub run_values_are : (k : ℕ) (years : List YearPart) (u : List ℤ) (indicators rest : List ℕ) (last : YearPart) (left : ℤ) (xs ys : List ℤ) → 1 ≤ length years → length u + 1 ≡ length years →
-    last ≡ get_or years (length years - 1) last → left ≡ get_or (pos 0 ∷ u) (length u) (pos 0) → rest ≡ drop (4 * length years) indicators →
-    xs ≡ series_of k years u → ys ≡ carried_of k last left rest → xs ++ ys ≡ run_values k years u indicators
-run_values_are k [] u indicators rest last left xs ys some joints e_last e_left e_rest e_xs e_ys = absurd (omega arith)
-run_values_are k (year ∷ years) u indicators rest last left xs ys some joints e_last e_left e_rest e_xs e_ys =
-    let place : length (year ∷ years) - 1 ≡ length years = omega arith in
-    let same : length u ≡ length years = omega arith in
-    let here : last ≡ get_or (year ∷ years) (length years) year = e_last ∙ ap (λ n. get_or (year ∷ years) n last) place ∙ get_or_default (year ∷ years) (length years) last year (omega arith) in
-    let before : left ≡ get_or (pos 0 ∷ u) (length years) (pos 0) = e_left ∙ ap (λ n. get_or (pos 0 ∷ u) n (pos 0)) same in
-    let carried_on : ys ≡ carried_of k (get_or (year ∷ years) (length years) year) (get_or (pos 0 ∷ u) (length years) (pos 0)) (drop (4 * length (year ∷ years)) indicators) =
-    e_ys ∙ ap (λ (y : YearPart). carried_of k y left rest) here ∙ ap (λ (z : ℤ). carried_of k (get_or (year ∷ years) (length years) year) z rest) before
-    ∙ ap (λ (is : List ℕ). carried_of k (get_or (year ∷ years) (length years) year) (get_or (pos 0 ∷ u) (length years) (pos 0)) is) e_rest in
-    ap (λ (l : List ℤ). l ++ ys) e_xs ∙ ap (λ (l : List ℤ). series_of k (year ∷ years) u ++ l) carried_on
+pub years_range : (indicators places : List ℕ) (benchmarks : List ℤ) → IsRun indicators places benchmarks →
+    AreInRange (years_at indicators places benchmarks)
+years_range indicators places benchmarks run =
+    run_in_range indicators places benchmarks run.placed run.whole_years run.each_indicator run.each_benchmark
+
+-- they are so from the first of them on
+pub years_from : (indicators places : List ℕ) (benchmarks : List ℤ) (place : ℕ) (benchmark : ℤ) →
+    IsRun indicators (place ∷ places) (benchmark ∷ benchmarks) →
+    AreFrom (year_at indicators place benchmark) (years_at indicators places benchmarks) indicators
+years_from indicators places benchmarks place benchmark run =
+    are_from (year_at indicators place benchmark) (years_at indicators places benchmarks) indicators
+    (years_are indicators (place ∷ places) (benchmark ∷ benchmarks) run)
+
+-- ---- what a table is worth
 
 -- numbers as cells are the numbers
 numbers_kept : (xs : List ℤ) → numbers_in (map Value xs) ≡ xs
@@ -75,53 +71,92 @@ numbers_kept [] = refl
 numbers_kept (x ∷ xs) = ap (λ (rest : List ℤ). x ∷ rest) (numbers_kept xs)
 
 -- a table's values meet its benchmarks and are within its gap
-table_worth : (indicators : List ℕ) (prices : List (Option ℕ)) (benchmarks : List ℤ) (reference : ℕ) (years : List YearPart) → benchmarks_of years ≡ benchmarks → 4 * length years ≤ length indicators → EachIndex indicators (λ t. 1 ≤ slice_index indicators t) →
-    MeetsItsBenchmarks (table_of_years indicators prices benchmarks reference years) × IsWithinItsGap (table_of_years indicators prices benchmarks reference years)
-table_worth indicators prices benchmarks reference [] e room each = (tt, tt)
-table_worth indicators prices benchmarks reference (year ∷ years) e room each =
-    let k : ℕ = scale_of_years (year ∷ years) in
-    let u : List ℤ = multipliers_of k (year ∷ years) in
-    let x : List ℤ = run_values k (year ∷ years) u indicators in
-    let meets : MeetsBenchmarks benchmarks (pos 1) x = subst (λ (bs : List ℤ). MeetsBenchmarks bs (pos 1) x) e (run_meets k (year ∷ years) u indicators) in
-    let joints = multipliers_count k (year ∷ years) (omega arith) in
-    let count : length benchmarks ≡ length (year ∷ years) = sym (ap (λ (bs : List ℤ). length bs) e) ∙ length-map (year ∷ years) (λ y. y.bench) in
-    let within : IsWithinGap indicators benchmarks x (gap_by (pos (10 ^ k)) indicators x (changes u indicators)) (pos (10 ^ k)) = within_gap indicators benchmarks x u (pos (10 ^ k)) each (run_values_count k year years u indicators room) (omega arith) meets in (
-      subst (λ (ns : List ℤ). MeetsBenchmarks benchmarks (pos 1) ns) (sym (numbers_kept x)) meets,
-      subst (λ (ns : List ℤ). IsWithinGap indicators benchmarks ns (gap_by (pos (10 ^ k)) indicators x (changes u indicators)) (pos (10 ^ k))) (sym (numbers_kept x)) within,
+table_worth : (indicators : List ℕ) (prices : List (Option ℕ)) (reference : ℕ) (places : List ℕ) (benchmarks : List ℤ) →
+    IsRun indicators places benchmarks →
+    MeetsItsBenchmarks (table_of_years indicators prices reference places benchmarks)
+    × IsWithinItsGap (table_of_years indicators prices reference places benchmarks)
+table_worth indicators prices reference [] benchmarks run = (tt, tt)
+table_worth indicators prices reference (place ∷ places) [] run = absurd (let same = run.placed in omega arith)
+table_worth indicators prices reference (place ∷ places) (benchmark ∷ benchmarks) run =
+    let year : BenchmarkedYear = year_at indicators place benchmark in
+    let later : List BenchmarkedYear = years_at indicators places benchmarks in
+    let k : ℕ = scale_of_years (year ∷ later) in
+    let u : List ℤ = multipliers_of k (year ∷ later) in
+    let x : List ℤ = run_values k (year ∷ later) u indicators in
+    let gap : ℤ = gap_by (pos (10 ^ k)) indicators x (changes (year ∷ later) u indicators) in
+    let are = years_are indicators (place ∷ places) (benchmark ∷ benchmarks) run in
+    let range = years_range indicators (place ∷ places) (benchmark ∷ benchmarks) run in
+    let meets = values_meet k year later u indicators are range in
+    let count = values_count k year later u indicators (are_from year later indicators are) range in
+    let joints = multipliers_count k (year ∷ later) (omega arith) in
+    let within : IsWithinGap indicators (year ∷ later) x gap (pos (10 ^ k)) =
+    within_gap indicators (year ∷ later) x u (pos (10 ^ k)) (λ t inside. (run.each_indicator t inside).0) are count
+    (omega arith) meets in (
+      subst (λ (ns : List ℤ). MeetsBenchmarks (year ∷ later) (pos 1) ns) (sym (numbers_kept x)) meets,
+      subst (λ (ns : List ℤ). IsWithinGap indicators (year ∷ later) ns gap (pos (10 ^ k))) (sym (numbers_kept x)) within,
     )
 
 -- so are those of a leaf's table
-pub leaf_worth : (indicators : List ℕ) (prices : List (Option ℕ)) (benchmarks : List (Option ℤ)) (reference : ℕ) → All IsPositiveInRange indicators → All IsBenchmarkOrNone benchmarks → length benchmarks ≡ length indicators / 4 → MeetsItsBenchmarks (leaf_table indicators prices benchmarks reference) × IsWithinItsGap (leaf_table indicators prices benchmarks reference)
+pub leaf_worth : (indicators : List ℕ) (prices : List (Option ℕ)) (benchmarks : List (Option ℤ)) (reference : ℕ) →
+    All IsPositiveInRange indicators → All IsBenchmarkOrNone benchmarks → length benchmarks ≡ length indicators / 4 →
+    MeetsItsBenchmarks (leaf_table indicators prices benchmarks reference)
+    × IsWithinItsGap (leaf_table indicators prices benchmarks reference)
 unfolding leaf_table
 leaf_worth indicators prices benchmarks reference each_indicator each_benchmark years =
-    let few = run_count benchmarks in
-    let room : 4 * length (benchmark_run benchmarks) ≤ length indicators = omega arith in
-    let count = years_count indicators (benchmark_run benchmarks) room in
-    table_worth indicators prices (benchmark_run benchmarks) reference (years_of indicators (benchmark_run benchmarks)) (years_benchmarks indicators (benchmark_run benchmarks) room (λ y inside. run_each benchmarks each_benchmark y inside)) (omega arith) (λ t inside. (each_indicator t 0 inside).0)
+    table_worth indicators prices reference (places_from 0 benchmarks) (present_benchmarks benchmarks)
+    (leaf_is_run indicators benchmarks each_indicator each_benchmark years)
 
 -- the table of a leaf without a benchmarked year
-pub leaf_table_none : (indicators : List ℕ) (prices : List (Option ℕ)) (benchmarks : List (Option ℤ)) (reference : ℕ) → benchmark_run benchmarks ≡ [] → leaf_table indicators prices benchmarks reference ≡ table_of_years indicators prices [] reference []
+pub leaf_table_none : (indicators : List ℕ) (prices : List (Option ℕ)) (benchmarks : List (Option ℤ)) (reference : ℕ) →
+    places_from 0 benchmarks ≡ [] →
+    leaf_table indicators prices benchmarks reference ≡ missing_table (length indicators) reference
 unfolding leaf_table
-leaf_table_none indicators prices benchmarks reference e = ap (λ (run : List ℤ). table_of_years indicators prices run reference (years_of indicators run)) e ∙ ap (λ (years : List YearPart). table_of_years indicators prices [] reference years) (none indicators)
-  where
-    none : (indicators : List ℕ) → years_of indicators [] ≡ []
-    none [] = refl
-    none (a ∷ []) = refl
-    none (a ∷ b ∷ []) = refl
-    none (a ∷ b ∷ c ∷ []) = refl
-    none (a ∷ b ∷ c ∷ d ∷ rest) = refl
+leaf_table_none indicators prices benchmarks reference e =
+    ap (λ (places : List ℕ). table_of_years indicators prices reference places (present_benchmarks benchmarks)) e
 
 -- the table of a leaf with benchmarked years
-pub leaf_table_is : (indicators : List ℕ) (prices : List (Option ℕ)) (benchmarks : List (Option ℤ)) (reference : ℕ) (run : List ℤ) → run ≡ benchmark_run benchmarks → table_of_years indicators prices run reference (years_of indicators run) ≡ leaf_table indicators prices benchmarks reference
+pub leaf_table_is : (indicators : List ℕ) (prices : List (Option ℕ)) (benchmarks : List (Option ℤ)) (reference : ℕ)
+    (places : List ℕ) (given : List ℤ) → places ≡ places_from 0 benchmarks → given ≡ present_benchmarks benchmarks →
+    table_of_years indicators prices reference places given ≡ leaf_table indicators prices benchmarks reference
 unfolding leaf_table
-leaf_table_is indicators prices benchmarks reference run e = ap (λ (r : List ℤ). table_of_years indicators prices r reference (years_of indicators r)) e
+leaf_table_is indicators prices benchmarks reference places given e f =
+    ap (λ (ps : List ℕ). table_of_years indicators prices reference ps given) e
+    ∙ ap (λ (bs : List ℤ). table_of_years indicators prices reference (places_from 0 benchmarks) bs) f
+
+-- the steps of a leaf's table are those of its run
+pub leaf_steps : (indicators copied places : List ℕ) (given : List ℤ) (benchmarks : List (Option ℤ))
+    (start now sweeps : ℕ) → copied ≡ indicators → places ≡ places_from 0 benchmarks →
+    given ≡ present_benchmarks benchmarks →
+    ((s : ℕ) → IsEnough (scale_of_years (years_at copied places given)) (years_at copied places given) s →
+    now ≤ start + s * (length given - 1)) → AreEnough indicators benchmarks sweeps →
+    now ≤ start + sweeps * joints_in benchmarks
+leaf_steps indicators copied places given benchmarks start now sweeps e_copied e_places e_given taken enough =
+    let years : years_at copied places given ≡ benchmarked_years indicators benchmarks =
+    ap (λ (is : List ℕ). years_at is places given) e_copied ∙ ap (λ (ps : List ℕ). years_at indicators ps given) e_places
+    ∙ ap (λ (bs : List ℤ). years_at indicators (places_from 0 benchmarks) bs) e_given in
+    subst (λ (bs : List ℤ). now ≤ start + sweeps * (length bs - 1)) e_given
+    (taken sweeps (subst (λ (ys : List BenchmarkedYear). IsEnough (scale_of_years ys) ys sweeps) (sym years) enough))
 
 -- the table that is made of a run's years, scale, multipliers, values and gap
-pub table_made : (indicators : List ℕ) (prices : List (Option ℕ)) (benchmarks : List ℤ) (reference k : ℕ) (u x : List ℤ) (gap : ℤ) (years : List YearPart) (value prev : List Cell) → 1 ≤ length years → k ≡ scale_of_years years → u ≡ multipliers_of k years → x ≡ run_values k years u indicators →
-    gap ≡ gap_by (pos (10 ^ k)) indicators x (changes u indicators) → value ≡ map Value x → prev ≡ volumes_of x prices →
-    chained_table (Some (record { indicators = indicators; benchmarks = benchmarks; scale = k; multipliers = u; gap = gap })) value prev reference ≡ table_of_years indicators prices benchmarks reference years
-table_made indicators prices benchmarks reference k u x gap [] value prev some e_k e_u e_x e_gap e_value e_prev = absurd (omega arith)
-table_made indicators prices benchmarks reference k u x gap (year ∷ years) value prev some e_k e_u e_x e_gap e_value e_prev = rw (e_value, e_prev, e_gap, e_x, e_u, e_k) refl
+pub table_made : (indicators : List ℕ) (prices : List (Option ℕ)) (places : List ℕ) (benchmarks : List ℤ)
+    (reference k : ℕ) (u x : List ℤ) (gap : ℤ) (value prev : List Cell) → 1 ≤ length places →
+    k ≡ scale_of_years (years_at indicators places benchmarks) →
+    u ≡ multipliers_of k (years_at indicators places benchmarks) →
+    x ≡ run_values k (years_at indicators places benchmarks) u indicators →
+    gap ≡ gap_by (pos (10 ^ k)) indicators x (changes (years_at indicators places benchmarks) u indicators) →
+    value ≡ map Value x → prev ≡ volumes_of x prices →
+    chained_table (Some (record {
+      indicators = indicators;
+      places = places;
+      benchmarks = benchmarks;
+      scale = k;
+      multipliers = u;
+      gap = gap;
+    })) value prev reference ≡ table_of_years indicators prices reference places benchmarks
+table_made indicators prices [] benchmarks reference k u x gap value prev some e_k e_u e_x e_gap e_value e_prev =
+    absurd (omega arith)
+table_made indicators prices (place ∷ places) benchmarks reference k u x gap value prev some e_k e_u e_x e_gap e_value
+    e_prev = rw (e_value, e_prev, e_gap, e_x, e_u, e_k) refl
 
 -- a table that has a chain is truly chained
 pub table_chained : (leaf : Option Certificate) (value prev : List Cell) (reference : ℕ) → IsTrulyChained reference (chained_table leaf value prev reference)
@@ -133,14 +168,20 @@ table_chained leaf value prev reference = record {
 }
 
 -- so is a leaf's
-years_chained : (indicators : List ℕ) (prices : List (Option ℕ)) (benchmarks : List ℤ) (reference : ℕ) (years : List YearPart) → IsTrulyChained reference (table_of_years indicators prices benchmarks reference years)
-years_chained indicators prices benchmarks reference [] = table_chained None (missing (length indicators)) (missing (length indicators)) reference
-years_chained indicators prices benchmarks reference (year ∷ years) =
-    let k : ℕ = scale_of_years (year ∷ years) in
-    let u : List ℤ = multipliers_of k (year ∷ years) in
-    let x : List ℤ = run_values k (year ∷ years) u indicators in
-    table_chained (Some (certificate_of indicators benchmarks k u x)) (map Value x) (volumes_of x prices) reference
+years_chained : (indicators : List ℕ) (prices : List (Option ℕ)) (reference : ℕ) (places : List ℕ) (benchmarks : List ℤ) →
+    IsTrulyChained reference (table_of_years indicators prices reference places benchmarks)
+years_chained indicators prices reference [] benchmarks =
+    table_chained None (missing (length indicators)) (missing (length indicators)) reference
+years_chained indicators prices reference (place ∷ places) benchmarks =
+    let years : List BenchmarkedYear = years_at indicators (place ∷ places) benchmarks in
+    let k : ℕ = scale_of_years years in
+    let u : List ℤ = multipliers_of k years in
+    let x : List ℤ = run_values k years u indicators in
+    table_chained (Some (certificate_of indicators (place ∷ places) benchmarks k u x)) (map Value x)
+    (volumes_of x prices) reference
 
-pub leaf_chained : (indicators : List ℕ) (prices : List (Option ℕ)) (benchmarks : List (Option ℤ)) (reference : ℕ) → IsTrulyChained reference (leaf_table indicators prices benchmarks reference)
+pub leaf_chained : (indicators : List ℕ) (prices : List (Option ℕ)) (benchmarks : List (Option ℤ)) (reference : ℕ) →
+    IsTrulyChained reference (leaf_table indicators prices benchmarks reference)
 unfolding leaf_table
-leaf_chained indicators prices benchmarks reference = years_chained indicators prices (benchmark_run benchmarks) reference (years_of indicators (benchmark_run benchmarks))
+leaf_chained indicators prices benchmarks reference =
+    years_chained indicators prices reference (places_from 0 benchmarks) (present_benchmarks benchmarks)

@@ -9,7 +9,7 @@ use Rattle.price_base.specs.declared.Cell.TheVariants.{Range}
 use Rattle.price_base.specs.Cells.{cell_at, number_of}
 use Rattle.annual_overlap.specs.Drift.{AreWithinDrift}
 use Rattle.annual_overlap.specs.Table.{chain_of, DoQuartersAddUp}
-use Rattle.node_compile.specs.Table.{Table}
+use Rattle.node_compile.specs.Table.{Table, years_of_certificate}
 
 -- the number in a cell. A mark has none, and 0 stands for it; a leaf with a certificate has no mark among its values
 abbrev pub number_in : Cell → ℤ
@@ -21,14 +21,14 @@ numbers_in cells = map number_in cells
 
 -- in each benchmarked year of the table's certificate the four values add up to the benchmark
 abbrev pub MeetsItsBenchmarks : Table → Type 0
-MeetsItsBenchmarks table =
-    IfSome table.leaf (λ certificate. MeetsBenchmarks certificate.benchmarks (pos 1) (numbers_in table.value))
+MeetsItsBenchmarks table = IfSome table.leaf (λ certificate.
+    MeetsBenchmarks (years_of_certificate certificate) (pos 1) (numbers_in table.value))
 
 -- no series of fractions that meets these benchmarks has a sum of squared ratio changes smaller than that of the values
 -- by more than the certificate's gap over 10^(2 * scale)
 abbrev pub IsWithinItsGap : Table → Type 0
 IsWithinItsGap table = IfSome table.leaf (λ certificate.
-    IsWithinGap certificate.indicators certificate.benchmarks (numbers_in table.value)
+    IsWithinGap certificate.indicators (years_of_certificate certificate) (numbers_in table.value)
     certificate.gap (pos (10 ^ certificate.scale)))
 
 -- a cell is a number above zero

@@ -4,17 +4,25 @@ use Rattle.std.specs.Arc.{arc_value}
 use Rattle.std.specs.Option.{option_map}
 use Rattle.std.specs.declared.sync.Arc.{Arc}
 use Rattle.annual_overlap.specs.declared.ChainTable.{ChainTable}
+use Rattle.denton_parts.specs.Year.{BenchmarkedYear}
+use Rattle.denton_parts.specs.Years.{years_at}
 use Rattle.price_base.specs.declared.Cell.{Cell}
 use Rattle.node_compile.specs.declared.table.LeafPart.{LeafPart}
 use Rattle.node_compile.specs.declared.table.NodeTable.{NodeTable}
 
--- the numbers of a leaf's certificate beside its values
+-- the numbers of a leaf's certificate beside its values; the places of its benchmarked years are counted from the first
+-- year of the run
 pub record Certificate : Type 0 where
   pub indicators : List ℕ
+  pub places : List ℕ
   pub benchmarks : List ℤ
   pub scale : ℕ
   pub multipliers : List ℤ
   pub gap : ℤ
+
+-- the benchmarked years of a certificate
+abbrev pub years_of_certificate : Certificate → List BenchmarkedYear
+years_of_certificate certificate = years_at certificate.indicators certificate.places certificate.benchmarks
 
 -- an item's table: the certificate of a leaf that has a benchmarked year, the values, the volumes at previous-year
 -- prices, and their chain
@@ -28,6 +36,7 @@ pub record Table : Type 0 where
 abbrev pub certificate_in : LeafPart → Certificate
 certificate_in part = record {
   indicators = part.ind.items;
+  places = part.years.items;
   benchmarks = part.bench.items;
   scale = part.cert.scale;
   multipliers = part.cert.u.items;

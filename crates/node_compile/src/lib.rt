@@ -5,14 +5,13 @@ mod chaining;
 mod inner;
 mod laws;
 mod leaf;
+mod quarters;
 mod release;
 mod table;
+mod years;
 
 pub use inner::compile_inner;
 pub use laws::figures_are_in_range;
 pub use leaf::compile_leaf;
 pub use release::{Release, compile_all};
 pub use table::{LeafPart, NodeTable};
-
-#[cfg(test)]
-mod tests;

@@ -12,9 +12,11 @@ use price_base::NodeFlows;
 pub struct LeafPart {
     /// the indicators of the run of quarters, each from 1 to 10^9
     pub ind: Vec<u32>,
-    /// the benchmarks of the benchmarked years in whole currency units, each within 10^12
+    /// the benchmarked years, counted from 0 at the first year and rising, each with its four quarters
+    pub years: Vec<u8>,
+    /// their benchmarks in whole currency units, each within 10^12
     pub bench: Vec<i64>,
-    /// the scale, the multipliers between the benchmarked years, and the gap of the values
+    /// the scale, the multipliers between each benchmarked year and the next, and the gap of the values
     pub cert: Cert,
 }
 

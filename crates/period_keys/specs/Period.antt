@@ -1,5 +1,6 @@
 -- The texts of years and quarters, and how a period counts from a start year.
-use Rattle.std.specs.Prelude.{ℕ, ◌+◌, ◌-◌, ◌*◌, ◌/◌, ◌%◌, Bool, ◌&&◌, ◌||◌, ◌==◌, nat_le, nat_lt, if◌then◌else◌, List, [], ◌∷◌, ◌++◌, Option, Some, None, Result, Ok, Err}
+use Rattle.std.specs.Prelude.{ℕ, ◌+◌, ◌-◌, ◌*◌, ◌/◌, ◌%◌, Bool, ◌&&◌, ◌||◌, ◌==◌, nat_le, nat_lt, if◌then◌else◌}
+use Rattle.std.specs.Prelude.{List, [], ◌∷◌, ◌++◌, Option, Some, None, Result, Ok, Err}
 use Rattle.std.specs.Char.{is_ascii_digit}
 use Rattle.period_keys.specs.declared.Year.{Year}
 use Rattle.period_keys.specs.declared.Quarter.{Quarter}
@@ -13,7 +14,8 @@ four_digits a b c d = 1000 * (a - 48) + 100 * (b - 48) + 10 * (c - 48) + (d - 48
 -- the year of a text: four digits and nothing else
 abbrev pub year_of : List ℕ → Option ℕ
 year_of (a ∷ b ∷ c ∷ d ∷ []) =
-    if is_ascii_digit a && is_ascii_digit b && is_ascii_digit c && is_ascii_digit d then Some (four_digits a b c d) else None
+    if is_ascii_digit a && is_ascii_digit b && is_ascii_digit c && is_ascii_digit d
+    then Some (four_digits a b c d) else None
 year_of _ = None
 
 -- the number of a quarter in its year: the letter Q or q, and a digit from 1 to 4

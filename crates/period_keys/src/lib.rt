@@ -1,8 +1,10 @@
 //! Quarters and years of accounts: places counted from a plan's start year, read from their texts and written back.
 #![tactic(auto)]
 
-ghost use Rattle.std.specs.Prelude.{◌≡◌, ◌≤◌, ◌<◌, ◌+◌, ◌-◌, ◌↔◌, ◌++◌, [], ◌∷◌, ℕ, false, if◌then◌else◌, IfSome, IsSomeAnd, OnOk, OnErr};
-ghost use Rattle.period_keys.specs.Period.{Named, year_of, number_of, quarter_of, is_within, year_from, quarter_from, year_text, quarter_text, year_at, quarter_at};
+ghost use Rattle.std.specs.Prelude.{◌≡◌, ◌≤◌, ◌<◌, ◌+◌, ◌-◌, ◌↔◌, ◌++◌, [], ◌∷◌, ℕ, false, if◌then◌else◌, IfSome};
+ghost use Rattle.std.specs.Prelude.{IsSomeAnd, OnOk, OnErr};
+ghost use Rattle.period_keys.specs.Period.{Named, year_of, number_of, quarter_of, is_within, year_from, quarter_from};
+ghost use Rattle.period_keys.specs.Period.{year_text, quarter_text, year_at, quarter_at};
 
 use qna_base::Memory;
 use thiserror::Error;
@@ -36,7 +38,8 @@ pub enum PeriodFault {
 pub fn read_quarter(field: &[u8], start: u16) -> Result<Quarter, PeriodFault>
     ensures read { result ≡ quarter_from start (quarter_of field.now) }
     ensures form { (result ≡ Err PeriodFault.Form) ↔ (quarter_of field.now ≡ None) }
-    ensures range { (result ≡ Err PeriodFault.Range) ↔ IsSomeAnd (quarter_of field.now) (λ q. is_within start q.year ≡ false) }
+    ensures range { (result ≡ Err PeriodFault.Range)
+        ↔ IsSomeAnd (quarter_of field.now) (λ q. is_within start q.year ≡ false) }
 {
     let (year, number) = match *field {
         [a, b, c, d, letter, digit] => (year_number(a, b, c, d), quarter_number(letter, digit)),
@@ -61,7 +64,8 @@ pub fn read_quarter(field: &[u8], start: u16) -> Result<Quarter, PeriodFault>
 pub fn read_year(field: &[u8], start: u16) -> Result<Year, PeriodFault>
     ensures read { result ≡ year_from start (year_of field.now) }
     ensures form { (result ≡ Err PeriodFault.Form) ↔ (year_of field.now ≡ None) }
-    ensures range { (result ≡ Err PeriodFault.Range) ↔ IsSomeAnd (year_of field.now) (λ y. is_within start y ≡ false) }
+    ensures range { (result ≡ Err PeriodFault.Range)
+        ↔ IsSomeAnd (year_of field.now) (λ y. is_within start y ≡ false) }
 {
     match calendar_year(field) {
         Some(year) => Ok(Year(years_from(year, start)?)),
@@ -85,7 +89,8 @@ pub fn write_quarter(q: Quarter, start: u16, out: &mut Vec<u8>) -> Result<(), Me
     requires first { 1900 ≤ start }
     requires last { start ≤ 2200 }
     requires within { q.0 < 256 }
-    ensures text { OnOk result (out.new.items ≡ out.old.items ++ quarter_text (quarter_at start q)) }
+    ensures text { OnOk result (out.new.items
+        ≡ out.old.items ++ quarter_text (quarter_at start q)) }
     ensures again { quarter_from start (quarter_of (quarter_text (quarter_at start q))) ≡ Ok q }
     ensures unchanged { OnErr result (out.new.items ≡ out.old.items) }
 {
@@ -111,7 +116,8 @@ pub fn write_year(y: Year, start: u16, out: &mut Vec<u8>) -> Result<(), Memory>
 /// What is written for a period is read again as the same period, for each year of four digits.
 pub fn written_is_read()
     ensures year { (y : ℕ) → y < 10000 → year_of (year_text y) ≡ Some y }
-    ensures quarter { (q : Named) → q.year < 10000 → 1 ≤ q.number → q.number ≤ 4 → quarter_of (quarter_text q) ≡ Some q }
+    ensures quarter { (q : Named) → q.year < 10000 → 1 ≤ q.number → q.number ≤ 4 →
+        quarter_of (quarter_text q) ≡ Some q }
 {}
 
 /// The number that four digits spell, where they are digits.
@@ -164,55 +170,4 @@ fn year_digits(year: u16) -> [u8; 4]
         b'0' + (year / 10 % 10) as u8,
         b'0' + (year % 10) as u8,
     ]
-}
-
-#[cfg(test)]
-mod tests {
-    use super::*;
-    use std::test::Fail;
-
-    #[test]
-    fn periods_are_read_and_written(rt: HostRuntime) -> Result<(), Fail> {
-        let form = PeriodFault::Form;
-        let range = PeriodFault::Range;
-        let years: [(&[u8], Result<Year, PeriodFault>); 9] = [
-            (b"2021", Ok(Year(0))),
-            (b"2084", Ok(Year(63))),
-            (b"2085", Err(range)),
-            (b"2020", Err(range)),
-            (b"9999", Err(range)),
-            (b"20210", Err(form)),
-            (b"202", Err(form)),
-            (b"202a", Err(form)),
-            (b"", Err(form)),
-        ];
-        for (text, want) in years {
-            assert_eq!(rt; read_year(text, 2021), want, "{text:?}");
-        }
-        assert_eq!(rt; calendar_year(b"0007"), Some(7));
-        assert_eq!(rt; calendar_year(b"9999"), Some(9999));
-        assert_eq!(rt; calendar_year(b"21"), None);
-        let quarters: [(&[u8], Result<Quarter, PeriodFault>); 12] = [
-            (b"2021Q1", Ok(Quarter(0))),
-            (b"2021-q4", Ok(Quarter(3))),
-            (b"2022q2", Ok(Quarter(5))),
-            (b"2084-Q4", Ok(Quarter(255))),
-            (b"2085Q1", Err(range)),
-            (b"2020Q4", Err(range)),
-            (b"2021Q0", Err(form)),
-            (b"2021Q5", Err(form)),
-            (b"2085Q5", Err(form)),
-            (b"2021--Q1", Err(form)),
-            (b"2021.Q1", Err(form)),
-            (b"2021Q1 ", Err(form)),
-        ];
-        for (text, want) in quarters {
-            assert_eq!(rt; read_quarter(text, 2021), want, "{text:?}");
-        }
-        let mut out = Vec::new(rt.alloc());
-        write_year(Year(63), 2200, &mut out).expect(&rt, "memory");
-        write_quarter(Quarter(7), 2021, &mut out).expect(&rt, "memory");
-        assert_eq!(rt; out.as_slice(), b"22632022Q4".as_slice());
-        Ok(())
-    }
 }

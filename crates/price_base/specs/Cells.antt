@@ -1,5 +1,6 @@
 -- Cells: figures or marks, and what a sum of cells is.
-use Rattle.std.specs.Prelude.{◌≢◌, ℕ, ℤ, pos, ◌+ℤ◌, Bool, true, false, if◌then◌else◌, List, [], ◌∷◌, slice_index_or, Option, Some, None}
+use Rattle.std.specs.Prelude.{◌≢◌, ℕ, ℤ, pos, ◌+ℤ◌, Bool, true, false, if◌then◌else◌, List, [], ◌∷◌, slice_index_or}
+use Rattle.std.specs.Prelude.{Option, Some, None}
 use Rattle.std.specs.List.{list_any}
 use Rattle.price_base.specs.declared.Cell.{Cell}
 use Rattle.price_base.specs.declared.Cell.TheVariants.{Missing, Value, NoBase, NoLink, Range}
@@ -41,4 +42,7 @@ total (Range ∷ cells) = total cells
 
 -- the cell of a sum: the first mark that occurs, in the order missing, no base, range; else the sum of the values
 abbrev pub combined : List Cell → Cell
-combined cells = if list_any is_missing cells then Missing else (if list_any is_no_base cells then NoBase else (if list_any is_range cells then Range else Value (total cells)))
+combined cells =
+    if list_any is_missing cells then Missing
+    else (if list_any is_no_base cells then NoBase
+    else (if list_any is_range cells then Range else Value (total cells)))

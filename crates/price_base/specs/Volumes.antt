@@ -1,6 +1,9 @@
--- Volumes at previous-year prices of a leaf, after chapter 8 of the IMF Quarterly National Accounts Manual (2017): a quarter's quantity at the average
--- price of the year before. The quantity of a leaf, its ranges and the base of the first year are this product's own.
-use Rattle.std.specs.Prelude.{ℕ, ◌+◌, ◌-◌, ◌*◌, ◌/◌, ◌^◌, ◌≤◌, ℤ, pos, ◌+ℤ◌, ◌*ℤ◌, int_le, nat_le, Bool, IsTrue, ◌&&◌, if◌then◌else◌, List, map, length, slice_get, slice_index_or, unsigned_abs, Option, Some, None}
+-- Volumes at previous-year prices of a leaf, after chapter 8 of the IMF Quarterly National Accounts Manual (2017): a
+-- quarter's quantity at the average price of the year before. The quantity of a leaf, its ranges and the base of the
+-- first year are this product's own.
+use Rattle.std.specs.Prelude.{ℕ, ◌+◌, ◌-◌, ◌*◌, ◌/◌, ◌^◌, ◌≤◌, ℤ, pos, ◌+ℤ◌, ◌*ℤ◌, int_le, nat_le, Bool}
+use Rattle.std.specs.Prelude.{IsTrue, ◌&&◌, if◌then◌else◌, List, map, length, slice_get, slice_index_or, unsigned_abs}
+use Rattle.std.specs.Prelude.{Option, Some, None}
 use Rattle.std.specs.List.{range_with_len}
 use Rattle.ratio_arith.specs.Division.{round_of}
 use Rattle.price_base.specs.declared.Cell.{Cell}
@@ -47,7 +50,8 @@ IsSoldInRange sold = (unsigned_abs sold.value ≤ 10 ^ 24) × (unsigned_abs sold
 
 -- the sizes of a base
 abbrev pub IsBaseInRange : Base → Type 0
-IsBaseInRange base = (IsTrue base.small → unsigned_abs base.value ≤ 10 ^ 15) × (unsigned_abs base.quantity ≤ 4 * 10 ^ 30)
+IsBaseInRange base =
+    (IsTrue base.small → unsigned_abs base.value ≤ 10 ^ 15) × (unsigned_abs base.quantity ≤ 4 * 10 ^ 30)
 
 -- a year is a base where each of its four quarters has a value and a price
 abbrev pub base_of : Option Sold → Option Sold → Option Sold → Option Sold → Option Base
@@ -57,7 +61,8 @@ base_of a b c d = None
 -- the base that the four quarters from a leaf's quarter start on make
 abbrev pub base_at : List ℤ → List (Option ℕ) → ℕ → Option Base
 base_at values prices start =
-    base_of (sold_at values prices start) (sold_at values prices (start + 1)) (sold_at values prices (start + 2)) (sold_at values prices (start + 3))
+    base_of (sold_at values prices start) (sold_at values prices (start + 1))
+    (sold_at values prices (start + 2)) (sold_at values prices (start + 3))
 
 -- the first quarter of the base of a quarter's year: the year before, and for the first year itself
 abbrev pub base_start : ℕ → ℕ
@@ -71,7 +76,8 @@ volume_within volume = if is_small volume then Value volume else Range
 abbrev pub volume_of : Option Base → Option Sold → Cell
 volume_of (Some base) (Some own) =
     if is_small own.quantity && base.small
-    then (if int_le base.quantity (pos 0) then NoBase else volume_within (round_of (own.quantity *ℤ base.value) base.quantity))
+    then (if int_le base.quantity (pos 0) then NoBase else volume_within
+    (round_of (own.quantity *ℤ base.value) base.quantity))
     else Range
 volume_of base own = Missing
 

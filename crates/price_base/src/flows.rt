@@ -63,8 +63,9 @@ impl Cells {
     }
 }
 
-/// An item's cells, quarter by quarter from the first quarter of the start year on: its values in whole currency units, and its volumes at
-/// previous-year prices in the same unit. The two lists are equally long, and no cell is `NoLink`, which is a mark of years.
+/// An item's cells, quarter by quarter from the first quarter of the start year on: its values in whole currency units,
+/// and its volumes at previous-year prices in the same unit. The two lists are equally long, and no cell is `NoLink`,
+/// which is a mark of years.
 #[derive(Debug, Drop)]
 pub struct NodeFlows {
     pub value: Cells,

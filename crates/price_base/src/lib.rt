@@ -23,7 +23,8 @@ pub struct Sold {
     pub quantity: i128,
 }
 
-/// A year's value and quantity, and whether its value and the quantities of its four quarters are at most 10^15 in size.
+/// A year's value and quantity, and whether its value and the quantities of its four quarters are at most 10^15 in
+/// size.
 #[derive(Clone, Copy)]
 pub struct Base {
     pub value: i128,
@@ -36,6 +37,3 @@ mod volumes;
 
 pub use flows::{Cells, NodeFlows};
 pub use volumes::{at_previous_prices, quantity};
-
-#[cfg(test)]
-mod tests;

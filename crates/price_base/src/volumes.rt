@@ -1,8 +1,11 @@
-ghost use Rattle.std.specs.Prelude.{◌≡◌, ◌≢◌, ◌≤◌, ◌<◌, ◌^◌, ◌+◌, ◌*◌, ◌%◌, ℕ, pos, ◌*ℤ◌, ◌+ℤ◌, ◌<ℤ◌, ◌≤ℤ◌, unsigned_abs, length, slice_get, slice_index_or, IfSome, nat_le, ◌&&◌, ◌⊎◌};
+ghost use Rattle.std.specs.Prelude.{◌≡◌, ◌≢◌, ◌≤◌, ◌<◌, ◌^◌, ◌+◌, ◌*◌, ◌%◌, ℕ, pos, ◌*ℤ◌, ◌+ℤ◌, ◌<ℤ◌, ◌≤ℤ◌};
+ghost use Rattle.std.specs.Prelude.{unsigned_abs, length, slice_get, slice_index_or, IfSome, nat_le, ◌&&◌, ◌⊎◌};
 ghost use Rattle.std.specs.List.{All};
 ghost use Rattle.price_base.specs.Cells.{IsFlow};
 ghost use Rattle.ratio_arith.specs.Division.{round_of};
-ghost use Rattle.price_base.specs.Volumes.{IsPrice, IsSoldInRange, IsBaseInRange, quantity_of, is_small, are_small, sold_of, sold_at, base_from, base_of, base_at, base_start, volume_within, volume_of, volumes_of};
+ghost use Rattle.price_base.specs.Volumes.{IsPrice, IsSoldInRange, IsBaseInRange, quantity_of, is_small};
+ghost use Rattle.price_base.specs.Volumes.{are_small, sold_of, sold_at, base_from, base_of, base_at, base_start};
+ghost use Rattle.price_base.specs.Volumes.{volume_within, volume_of, volumes_of};
 
 use crate::{Base, Cell, Sold};
 use ratio_arith::round_div;
@@ -10,8 +13,8 @@ use ratio_arith::round_div;
 /// The greatest size of quantities, of a base year's value and of volumes.
 const LIMIT: u128 = 1_000_000_000_000_000;
 
-/// The quantity behind a value at a price, in millionths: `value * 10^6 / price`, rounded with halves up. `value` is in whole currency units, within
-/// 10^24; `price` is 1 to 10^9. The quantity of a leaf is this product's own.
+/// The quantity behind a value at a price, in millionths: `value * 10^6 / price`, rounded with halves up. `value` is in
+/// whole currency units, within 10^24; `price` is 1 to 10^9. The quantity of a leaf is this product's own.
 pub fn quantity(x: i128, price: u32) -> i128
     requires value { unsigned_abs x ≤ 10 ^ 24 }
     requires price { IsPrice price }
@@ -112,7 +115,8 @@ fn year_quantity(first: Sold, second: Sold, third: Sold, fourth: Sold) -> i128
     requires second { IsSoldInRange second }
     requires third { IsSoldInRange third }
     requires fourth { IsSoldInRange fourth }
-    ensures value { result ≡ first.quantity +ℤ second.quantity +ℤ third.quantity +ℤ fourth.quantity }
+    ensures value { result
+        ≡ first.quantity +ℤ second.quantity +ℤ third.quantity +ℤ fourth.quantity }
     ensures size { unsigned_abs result ≤ 4 * 10 ^ 30 }
 {
     sum_of(
@@ -125,7 +129,8 @@ fn year_quantity(first: Sold, second: Sold, third: Sold, fourth: Sold) -> i128
 
 /// Whether a year's value and its four quantities are small.
 fn is_small_year(value: i128, first: Sold, second: Sold, third: Sold, fourth: Sold) -> bool
-    ensures small { result ≡ (is_small value && are_small first.quantity second.quantity third.quantity fourth.quantity) }
+    ensures small { result ≡ (is_small value
+        && are_small first.quantity second.quantity third.quantity fourth.quantity) }
 {
     is_small_number(value)
         && are_four_small(
@@ -290,12 +295,13 @@ fn base_for(x: &[i128], price: &[Option<u32>], quarter: usize, kept: Option<Base
     }
 }
 
-/// Writes a leaf's volumes at previous-year prices, quarter by quarter from a year's first quarter on: its quantity times the average price of the
-/// base, which is the year before, and for the first year itself (chapter 8 of the IMF Quarterly National Accounts Manual, 2017; the quantities, the
-/// first year's base and the ranges are this product's own). The cell is, in this order, `Missing` where the quarter or one of the base's quarters has
-/// no value or no price; `Range` where one of the quantities or the base's value passes 10^15; `NoBase` where the base's quantity is not above zero;
-/// `Range` where the volume passes 10^15; else the volume. The values `x` are in whole currency units, within 10^24; a price is 1 to 10^9; the three
-/// slices are equally long, at most 512.
+/// Writes a leaf's volumes at previous-year prices, quarter by quarter from a year's first quarter on: its quantity
+/// times the average price of the base, which is the year before, and for the first year itself (chapter 8 of the IMF
+/// Quarterly National Accounts Manual, 2017; the quantities, the first year's base and the ranges are this product's
+/// own). The cell is, in this order, `Missing` where the quarter or one of the base's quarters has no value or no
+/// price; `Range` where one of the quantities or the base's value passes 10^15; `NoBase` where the base's quantity is
+/// not above zero; `Range` where the volume passes 10^15; else the volume. The values `x` are in whole currency units,
+/// within 10^24; a price is 1 to 10^9; the three slices are equally long, at most 512.
 pub fn at_previous_prices(x: &[i128], price: &[Option<u32>], out: &mut [Cell])
     requires sizes { All (λ value. unsigned_abs value ≤ 10 ^ 24) x.now }
     requires prices { All (λ price. IfSome price IsPrice) price.now }

@@ -40,7 +40,8 @@ impl<L: Ledger> Model for Steps<L> {
 }
 
 impl<L: Ledger> Steps<L> {
-    /// A counter that has counted no step yet. A caller makes the blank with one part or more, and picks its ledger as `L`.
+    /// A counter that has counted no step yet. A caller makes the blank with one part or more, and picks its ledger as
+    /// `L`.
     pub fn open(blank: Blank) -> Steps<L>
         requires name { blank.name ≡ L.name }
         requires parts { blank.parts ≡ L.parts }

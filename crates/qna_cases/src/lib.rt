@@ -1,8 +1,7 @@
 //! Worked rows as tables: what the program is given and what it must leave.
 //!
-//! The values were computed from the definitions, by hand or by a script that shares no code with the program, or come from published worked rows; none
-//! was taken from the program.
-//! Crates above read them in their tests.
+//! The values were computed from the definitions, by hand or by a script that shares no code with the program, or come
+//! from published worked rows; none was taken from the program. Crates above read them in their tests.
 #![tactic(auto)]
 
 mod batch_rows;

@@ -20,6 +20,3 @@ pub use refused::{Failed, Refused};
 pub use sink::{MemSink, QuietSink, write_all};
 pub use source::{MemSource, QuietSource};
 pub use status::Status;
-
-#[cfg(test)]
-mod tests;

@@ -48,17 +48,13 @@ item_worth plan text item = by_leaf (is_leaf plan item)
     by_leaf true = leaf_of_text plan text item
     by_leaf false = (tt, tt)
 
--- the values of a run are above 0
-positive_run : (run : List ℤ) → AllByRecursion (λ value. IsOfKind Indicator value) run → AllByRecursion (λ value. pos 1 ≤ℤ value) run
-positive_run [] each = tt
-positive_run (value ∷ run) each = (each.0.0, positive_run run each.1)
-
 -- what the accepted inputs of a text give for a leaf is in range
 leaf_range : (plan : PlanShape) (text : List ℕ) (leaf : ℕ) → IsLeafInRange (last_value (accepted plan text)) leaf
 leaf_range plan text leaf =
     let value_at : Kind → ℕ → ℕ → Option ℤ = last_value (accepted plan text) in
     record {
-      run = positive_run (run_of (value_at Indicator leaf)) (run_range (value_at Indicator leaf) (λ period value. value_range plan text Indicator leaf period value) 256 0);
+      run = run_range (value_at Indicator leaf)
+          (λ period value. value_range plan text Indicator leaf period value) 256 0;
       benchmarks = benchmarks_range (value_at Benchmark leaf) (λ period value. value_range plan text Benchmark leaf period value) (length (run_of (value_at Indicator leaf)) / 4) 0;
     }
 

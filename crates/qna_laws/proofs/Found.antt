@@ -8,12 +8,13 @@ use Rattle.std.proofs.lemmas.Option.{slice_get_within, get_or_from_slice_get}
 use Rattle.line_form.specs.Lines.{lines_of}
 use Rattle.denton_parts.specs.Changes.{changes}
 use Rattle.denton_parts.specs.Gap.{gap_by}
+use Rattle.denton_parts.specs.Years.{years_at}
 use Rattle.dual_cert.specs.declared.verdict.Verdict.TheVariants.{Yes}
 use Rattle.price_base.specs.declared.Cell.{Cell}
 use Rattle.cert_read.specs.declared.fault.CertFault.{CertFault}
 use Rattle.cert_read.specs.Content.{Content}
 use Rattle.cert_read.specs.Reading.{reading}
-use Rattle.cert_read.specs.Found.{gap_of_content, verdict_of, found}
+use Rattle.cert_read.specs.Found.{gap_of_content, years_of, first_missed_among, verdict_of, found}
 use Rattle.cert_read.proofs.Verdicts.{none_missed_is, same_indicators, by_gap, chosen_yes, found_is}
 use Rattle.series_tables.specs.Cells.{cells_from}
 use Rattle.series_tables.specs.IsPlan.{IsPlan}
@@ -28,7 +29,7 @@ use Rattle.input_rules.proofs.MoreLines.{accepted_of-few}
 use Rattle.node_compile.specs.Laws.{numbers_in}
 use Rattle.node_compile.specs.Leaf.{leaf_table}
 use Rattle.node_compile.specs.Release.{table_of_leaf, inner_table, values_of_leaves, volumes_of_leaves, item_table, compilation}
-use Rattle.node_compile.specs.Table.{Certificate, Table}
+use Rattle.node_compile.specs.Table.{Certificate, Table, years_of_certificate}
 use Rattle.node_compile.proofs.Items.{cells_count}
 use Rattle.release_print.specs.Certificate.{certificate_or_none, certificate_text, content_of}
 use Rattle.release_print.specs.Line.{name_of}
@@ -44,8 +45,15 @@ sound_found : AreYearsRead → AreQuartersRead → (start front : ℕ) (name : L
 sound_found years quarters start front name certificate values sound =
     let said : Content = content_of start name front certificate values in
     let gap : gap_of_content said ≡ certificate.gap =
-    ap (λ (is : List ℕ). gap_by (pos (10 ^ certificate.scale)) is (numbers_in values) (changes certificate.multipliers is)) (same_indicators certificate.indicators) ∙ sym sound.gap in
-    let yes : verdict_of said ≡ Yes = by_gap said certificate.gap Yes (none_missed_is certificate.benchmarks (numbers_in values) sound.meets) gap (chosen_yes certificate.gap certificate.gap refl) in
+    ap (λ (is : List ℕ). gap_by (pos (10 ^ certificate.scale)) is (numbers_in values)
+    (changes (years_at is certificate.places certificate.benchmarks) certificate.multipliers is))
+    (same_indicators certificate.indicators) ∙ sym sound.gap in
+    let none : first_missed_among said.x (years_of said) ≡ None =
+    ap (λ (is : List ℕ). first_missed_among (numbers_in values)
+    (years_at is certificate.places certificate.benchmarks)) (same_indicators certificate.indicators)
+    ∙ none_missed_is (years_of_certificate certificate) (numbers_in values) sound.meets in
+    let yes : verdict_of said ≡ Yes =
+    by_gap said certificate.gap Yes none gap (chosen_yes certificate.gap certificate.gap refl) in
     found_is (certificate_or_none start name front (Some certificate) values) said Yes (printed_read years quarters start front name certificate values sound.document) yes
 
 -- what is true of a certificate that is printed at a front, where there is one

@@ -17,7 +17,7 @@ ghost use Rattle.input_rules.specs.Accepted.{accepted};
 ghost use Rattle.node_compile.specs.Laws.{numbers_in};
 ghost use Rattle.node_compile.specs.Leaf.{leaf_table};
 ghost use Rattle.node_compile.specs.Release.{compilation};
-ghost use Rattle.node_compile.specs.Table.{Certificate, Table};
+ghost use Rattle.node_compile.specs.Table.{Certificate, Table, years_of_certificate};
 ghost use Rattle.release_print.specs.Certificate.{certificate_or_none, content_of};
 ghost use Rattle.qna_laws.specs.Certificates.{IsReadAndTrue, IsFoundTrue};
 
@@ -28,8 +28,8 @@ use series_tables::spelled_plans_are_plans;
 /// the front, the scale, the start year, the indicators, the benchmarks, the values, the multipliers and the gap.
 pub fn printed_certificate_is_read()
     ensures { (start front : ℕ) (name : List ℕ) (certificate : Certificate) (values : List Cell) →
-        IsDocument name front certificate.scale start certificate.indicators certificate.benchmarks
-        (numbers_in values) certificate.multipliers certificate.gap
+        IsDocument name front certificate.scale start certificate.places certificate.indicators
+        certificate.benchmarks (numbers_in values) certificate.multipliers certificate.gap
         → reading (certificate_or_none start name front (Some certificate) values)
         ≡ Ok (content_of start name front certificate values) }
 {
@@ -42,10 +42,10 @@ pub fn printed_certificate_is_true()
     ensures { (doc : CertDoc) (start front : ℕ) (name : List ℕ)
         (certificate : Certificate) (values : List Cell) →
         content_of_document doc ≡ content_of start name front certificate values
-        → MeetsBenchmarks certificate.benchmarks (pos 1) (numbers_in values)
+        → MeetsBenchmarks (years_of_certificate certificate) (pos 1) (numbers_in values)
         → certificate.gap
         ≡ gap_by (pos (10 ^ certificate.scale)) certificate.indicators (numbers_in values)
-        (changes certificate.multipliers certificate.indicators)
+        (changes (years_of_certificate certificate) certificate.multipliers certificate.indicators)
         → MeetsAll doc × (doc.gap ≡ gap_of_document doc) }
 {}
 

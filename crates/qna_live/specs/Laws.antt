@@ -83,8 +83,8 @@ LiveCompletes =
     → is_ok (plan_of spelled) ≡ true → length spelled ≤ plan_limit → IsQuiet old new before after form
     → (status ≡ Done) ⊎ (status ≡ Memory)
 
--- where one desk alone was served and ended at its input's end, the inputs of the journal are those that are accepted of
--- its input
+-- where one desk alone was served and ended at its input's end, the inputs of the journal are those that are accepted
+-- of its input
 abbrev pub DeskSends : Type 0
 DeskSends =
     (plan : PlanShape) (desk : DeskTraces) (kept : Trace) (before after : Paper) (status : Status) (text : List ℕ)

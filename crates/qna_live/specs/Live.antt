@@ -114,8 +114,8 @@ pub record IsJournalKept (text : List ℕ) (file : Trace) (written : Status) : T
   pub ends : (written ≡ Done) ⊎ ((written ≡ WriteFault) ⊎ (written ≡ Memory))
   pub created : IsCreatedOnce file
 
--- a text was to be written: all of it was; or a write was refused, and a beginning of it was, but not all; or memory was
--- wanting, and nothing of it or such a beginning was
+-- a text was to be written: all of it was; or a write was refused, and a beginning of it was, but not all; or memory
+-- was wanting, and nothing of it or such a beginning was
 pub record IsTextWritten (text : List ℕ) (old new : Paper) (status : Status) : Type 0 where
   pub whole : status ≡ Done → new ≡ grown old text
   pub cut : status ≡ WriteFault → BreaksOff old new text

@@ -1,4 +1,5 @@
--- Division of whole numbers of either sign by a positive one: the floor, the ceiling, and the rounding to the nearest whole with halves up.
+-- Division of whole numbers of either sign by a positive one: the floor, the ceiling, and the rounding to the nearest
+-- whole with halves up.
 use Rattle.std.specs.Prelude.{ℤ, pos, ◌+ℤ◌, ◌*ℤ◌, ◌≤ℤ◌, ◌<ℤ◌, neg_ℤ}
 use Rattle.std.specs.Int.{int_div_euclid}
 

@@ -1,7 +1,8 @@
 //! Exact division of whole numbers: floor, ceiling, rounding with halves up, and products tested against a bound.
 #![tactic(auto)]
 
-ghost use Rattle.std.specs.Prelude.{◌≡◌, ◌↔◌, ◌≤◌, ◌^◌, ◌*◌, pos, negsuc, ◌-◌, ◌*ℤ◌, ◌≤ℤ◌, ◌<ℤ◌, IsNone, IfSome, unsigned_abs};
+ghost use Rattle.std.specs.Prelude.{◌≡◌, ◌↔◌, ◌≤◌, ◌^◌, ◌*◌, pos, negsuc, ◌-◌, ◌*ℤ◌, ◌≤ℤ◌, ◌<ℤ◌};
+ghost use Rattle.std.specs.Prelude.{IsNone, IfSome, unsigned_abs};
 ghost use Rattle.ratio_arith.specs.Division.{floor_of, ceil_of, round_of, IsFloor, IsCeiling, IsNearest};
 
 /// The floor of `n / d`: the greatest whole number at most the quotient.
@@ -45,35 +46,5 @@ pub fn mul_within(a: i128, b: i128, bound: i128) -> Option<i128>
         None
     } else {
         Some(product)
-    }
-}
-
-#[cfg(test)]
-mod tests {
-    use super::*;
-
-    #[test]
-    fn divides_either_sign(rt: HostRuntime) {
-        for (n, d, floor, ceiling, nearest) in [
-            (7, 2, 3, 4, 4),
-            (-7, 2, -4, -3, -3),
-            (8, 4, 2, 2, 2),
-            (-9, 4, -3, -2, -2),
-            (-10, 4, -3, -2, -2),
-            (5, 3, 1, 2, 2),
-        ] {
-            assert_eq!(rt; floor_div(n, d), floor);
-            assert_eq!(rt; ceil_div(n, d), ceiling);
-            assert_eq!(rt; round_div(n, d), nearest);
-        }
-    }
-
-    #[test]
-    fn tests_products(rt: HostRuntime) {
-        assert_eq!(rt; mul_within(-6, 7, 42), Some(-42));
-        assert_eq!(rt; mul_within(-6, 7, 41), None);
-        assert_eq!(rt; mul_within(i128::MIN, 1, i128::MAX), None);
-        assert_eq!(rt; mul_within(i128::MAX, i128::MAX, i128::MAX), None);
-        assert_eq!(rt; mul_within(i128::MIN, 0, 0), Some(0));
     }
 }

@@ -1,10 +1,12 @@
 -- The lines of numbers from a place on: where a part of the next line is written, a part of all lines is.
-use Rattle.std.proofs.Common.{◌≡◌, ℕ, ℤ, pos, ◌+◌, ◌<◌, ◌++◌, List, map, length, drop, get_or, ◌∷◌, Some, refl, arith}
+use Rattle.std.proofs.Common.{◌≡◌, ℕ, ℤ, pos, ◌+◌, ◌<◌, ◌≤◌, List, [], ◌∷◌, ◌++◌, map, length, drop, get_or}
+use Rattle.std.proofs.Common.{Some, refl, ap, arith}
 use Rattle.std.specs.List.{slice_get}
+use Rattle.std.proofs.lemmas.List.{drop_all}
 use Rattle.std.proofs.lemmas.Option.{slice_get_within, get_or_from_slice_get}
 use Rattle.node_compile.specs.Table.{Table}
 use Rattle.price_base.specs.declared.Cell.{Cell}
-use Rattle.cert_read.specs.Statement.{indicator_line, benchmark_line, value_line, multiplier_line}
+use Rattle.cert_read.specs.Statement.{Statement, indicator_line, value_line}
 use Rattle.cert_read.specs.Content.{quarter_from, quarterly, yearly}
 use Rattle.node_compile.specs.Laws.{number_in, numbers_in}
 use Rattle.release_print.specs.Part.{AppendsPart}
@@ -24,24 +26,46 @@ pub values_part : (old mid new whole : List ℕ) (start i : ℕ) (d : Cell) (xs 
 values_part old mid new whole start i d xs inside w p =
     wrote_some old mid new (statement_text (value_line (quarter_from start i) (number_in (get_or xs i d)))) (statements_text (quarterly value_line start i (numbers_in (drop i xs)))) (statements_text (quarterly value_line start (i + 1) (numbers_in (drop (i + 1) xs)))) whole w (rw (from_place xs i d inside) refl) p
 
-pub benchmarks_part : (old mid new whole : List ℕ) (start i : ℕ) (d : ℤ) (xs : List ℤ) → i < length xs → Wrote old mid (statements_text (yearly benchmark_line (start + i) (drop i xs))) whole → AppendsPart mid new (statement_text (benchmark_line (start + i) (get_or xs i d))) → AppendsPart old new whole
-benchmarks_part old mid new whole start i d xs inside w p =
-    wrote_some old mid new (statement_text (benchmark_line (start + i) (get_or xs i d))) (statements_text (yearly benchmark_line (start + i) (drop i xs))) (statements_text (yearly benchmark_line (start + i + 1) (drop (i + 1) xs))) whole w (rw (from_place xs i d inside) refl) p
+-- the lines of the years from one on are that of the year there and those of the years behind it
+yearly_next : (line : ℕ → ℤ → Statement) (start i place : ℕ) (d : ℤ) (places : List ℕ) (xs : List ℤ) →
+    i < length places → place ≡ get_or places i 0 → i < length xs →
+    yearly line start (drop i places) (drop i xs)
+    ≡ line (start + place) (get_or xs i d) ∷ yearly line start (drop (i + 1) places) (drop (i + 1) xs)
+yearly_next line start i place d places xs there here inside =
+    rw (from_place places i 0 there, from_place xs i d inside, here) refl
 
-pub multipliers_part : (old mid new whole : List ℕ) (start i : ℕ) (d : ℤ) (xs : List ℤ) → i < length xs → Wrote old mid (statements_text (yearly multiplier_line (start + i) (drop i xs))) whole → AppendsPart mid new (statement_text (multiplier_line (start + i) (get_or xs i d))) → AppendsPart old new whole
-multipliers_part old mid new whole start i d xs inside w p =
-    wrote_some old mid new (statement_text (multiplier_line (start + i) (get_or xs i d))) (statements_text (yearly multiplier_line (start + i) (drop i xs))) (statements_text (yearly multiplier_line (start + i + 1) (drop (i + 1) xs))) whole w (rw (from_place xs i d inside) refl) p
+-- where a part of the next year's line is written, a part of all lines is
+pub yearly_part : (line : ℕ → ℤ → Statement) (old mid new whole : List ℕ) (start i place : ℕ) (d : ℤ)
+    (places : List ℕ) (xs : List ℤ) → i < length places → place ≡ get_or places i 0 → i < length xs →
+    Wrote old mid (statements_text (yearly line start (drop i places) (drop i xs))) whole →
+    AppendsPart mid new (statement_text (line (start + place) (get_or xs i d))) → AppendsPart old new whole
+yearly_part line old mid new whole start i place d places xs there here inside w part =
+    wrote_some old mid new (statement_text (line (start + place) (get_or xs i d)))
+    (statements_text (yearly line start (drop i places) (drop i xs)))
+    (statements_text (yearly line start (drop (i + 1) places) (drop (i + 1) xs))) whole w
+    (ap statements_text (yearly_next line start i place d places xs there here inside)) part
 
--- one more line of a benchmark, or of a multiplier, is written
-pub benchmarks_more : (old mid new whole : List ℕ) (start i : ℕ) (d : ℤ) (xs : List ℤ) → i < length xs → Wrote old mid (statements_text (yearly benchmark_line (start + i) (drop i xs))) whole → new ≡ mid ++ statement_text (benchmark_line (start + i) (get_or xs i d)) → Wrote old new (statements_text (yearly benchmark_line (start + (i + 1)) (drop (i + 1) xs))) whole
-benchmarks_more old mid new whole start i d xs inside w grown =
-    let same : start + (i + 1) ≡ start + i + 1 = omega arith in
-    rw same (wrote_more old mid new (statement_text (benchmark_line (start + i) (get_or xs i d))) (statements_text (yearly benchmark_line (start + i) (drop i xs))) (statements_text (yearly benchmark_line (start + i + 1) (drop (i + 1) xs))) whole w (rw (from_place xs i d inside) refl) grown)
+-- one more year's line is written
+pub yearly_more : (line : ℕ → ℤ → Statement) (old mid new whole : List ℕ) (start i place : ℕ) (d : ℤ)
+    (places : List ℕ) (xs : List ℤ) → i < length places → place ≡ get_or places i 0 → i < length xs →
+    Wrote old mid (statements_text (yearly line start (drop i places) (drop i xs))) whole →
+    new ≡ mid ++ statement_text (line (start + place) (get_or xs i d)) →
+    Wrote old new (statements_text (yearly line start (drop (i + 1) places) (drop (i + 1) xs))) whole
+yearly_more line old mid new whole start i place d places xs there here inside w grown =
+    wrote_more old mid new (statement_text (line (start + place) (get_or xs i d)))
+    (statements_text (yearly line start (drop i places) (drop i xs)))
+    (statements_text (yearly line start (drop (i + 1) places) (drop (i + 1) xs))) whole w
+    (ap statements_text (yearly_next line start i place d places xs there here inside)) grown
 
-pub multipliers_more : (old mid new whole : List ℕ) (start i : ℕ) (d : ℤ) (xs : List ℤ) → i < length xs → Wrote old mid (statements_text (yearly multiplier_line (start + i) (drop i xs))) whole → new ≡ mid ++ statement_text (multiplier_line (start + i) (get_or xs i d)) → Wrote old new (statements_text (yearly multiplier_line (start + (i + 1)) (drop (i + 1) xs))) whole
-multipliers_more old mid new whole start i d xs inside w grown =
-    let same : start + (i + 1) ≡ start + i + 1 = omega arith in
-    rw same (wrote_more old mid new (statement_text (multiplier_line (start + i) (get_or xs i d))) (statements_text (yearly multiplier_line (start + i) (drop i xs))) (statements_text (yearly multiplier_line (start + i + 1) (drop (i + 1) xs))) whole w (rw (from_place xs i d inside) refl) grown)
+-- no line is left where no number is
+yearly_none : (line : ℕ → ℤ → Statement) (start : ℕ) (places : List ℕ) → yearly line start places [] ≡ []
+yearly_none line start [] = refl
+yearly_none line start (place ∷ places) = refl
+
+pub yearly_done : (line : ℕ → ℤ → Statement) (start i : ℕ) (places : List ℕ) (xs : List ℤ) → length xs ≤ i →
+    statements_text (yearly line start (drop i places) (drop i xs)) ≡ []
+yearly_done line start i places xs done =
+    rw (drop_all i xs done) (ap statements_text (yearly_none line start (drop i places)))
 
 pub cells_part : (old mid new whole word name : List ℕ) (start i : ℕ) (d : Cell) (xs : List Cell) → i < length xs → Wrote old mid (cell_lines word start name i (drop i xs)) whole → AppendsPart mid new (cell_line word start name i (get_or xs i d)) → AppendsPart old new whole
 cells_part old mid new whole word name start i d xs inside w p =

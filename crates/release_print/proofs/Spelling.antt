@@ -19,4 +19,8 @@ runs_text name scale start gap end indicators benchmarks values multipliers = si
 pub certificate_is : (start : ℕ) (name : List ℕ) (front : ℕ) (certificate : Certificate) (values : List Cell) → statements_text (spelled (content_of start name front certificate values)) ≡ head_text name front certificate.scale start ++ (numbers_text start certificate values ++ end_text certificate.gap)
 unfolding spelled
 certificate_is start name front certificate values =
-    runs_text (certificate_line name (pos front)) (scale_line (pos certificate.scale)) (start_line start) (gap_line certificate.gap) end_line (quarterly indicator_line start 0 (map pos certificate.indicators)) (yearly benchmark_line start certificate.benchmarks) (quarterly value_line start 0 (numbers_in values)) (yearly multiplier_line start certificate.multipliers)
+    runs_text (certificate_line name (pos front)) (scale_line (pos certificate.scale)) (start_line start)
+    (gap_line certificate.gap) end_line (quarterly indicator_line start 0 (map pos certificate.indicators))
+    (yearly benchmark_line start certificate.places certificate.benchmarks)
+    (quarterly value_line start 0 (numbers_in values))
+    (yearly multiplier_line start certificate.places certificate.multipliers)

@@ -3,7 +3,8 @@ use Rattle.std.specs.Prelude.{ℕ, ℤ, pos, List, [], ◌∷◌, ◌++◌, map,
 use Rattle.std.specs.Fmt.{signed_decimal}
 use Rattle.period_keys.specs.Period.{year_text, quarter_text}
 use Rattle.series_tables.specs.Plan.{PlanShape}
-use Rattle.cert_read.specs.Statement.{Statement, certificate_line, scale_line, start_line, indicator_line, benchmark_line, value_line, multiplier_line, gap_line, end_line}
+use Rattle.cert_read.specs.Statement.{Statement, certificate_line, scale_line, start_line, indicator_line}
+use Rattle.cert_read.specs.Statement.{benchmark_line, value_line, multiplier_line, gap_line, end_line}
 use Rattle.cert_read.specs.Content.{Content, quarterly, yearly, spelled}
 use Rattle.price_base.specs.declared.Cell.{Cell}
 use Rattle.node_compile.specs.Laws.{numbers_in}
@@ -39,13 +40,13 @@ head_text name front k start =
 abbrev pub numbers_text : ℕ → Certificate → List Cell → List ℕ
 numbers_text start certificate values =
     statements_text (quarterly indicator_line start 0 (map pos certificate.indicators))
-    ++ (statements_text (yearly benchmark_line start certificate.benchmarks)
+    ++ (statements_text (yearly benchmark_line start certificate.places certificate.benchmarks)
     ++ (statements_text (quarterly value_line start 0 (numbers_in values))
-    ++ statements_text (yearly multiplier_line start certificate.multipliers)))
+    ++ statements_text (yearly multiplier_line start certificate.places certificate.multipliers)))
 
 -- what stands behind a leaf's values has the lists of a leaf with benchmarked years
 abbrev pub IsPartOf : LeafPart → List Cell → Type 0
-IsPartOf part values = IsBenchmarked part.ind.items part.bench.items part.cert.u.items values
+IsPartOf part values = IsBenchmarked part.ind.items part.years.items part.bench.items part.cert.u.items values
 
 -- the text of the lines at the end
 abbrev pub end_text : ℤ → List ℕ
@@ -60,6 +61,7 @@ content_of start name front certificate values = record {
   scale = pos certificate.scale;
   start = start;
   ind = map pos certificate.indicators;
+  places = certificate.places;
   bench = certificate.benchmarks;
   x = numbers_in values;
   u = certificate.multipliers;

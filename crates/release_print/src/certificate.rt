@@ -1,13 +1,15 @@
 //! The text of a leaf's certificate.
 
 ghost use Rattle.std.specs.Prelude.{◌≡◌, ◌<◌, ◌≤◌, pos, map, length, IsTrue, Some};
-ghost use Rattle.cert_read.specs.Statement.{certificate_line, scale_line, start_line, indicator_line, benchmark_line, value_line, multiplier_line, gap_line};
+ghost use Rattle.cert_read.specs.Statement.{certificate_line, scale_line, start_line, indicator_line, benchmark_line};
+ghost use Rattle.cert_read.specs.Statement.{value_line, multiplier_line, gap_line};
 ghost use Rattle.cert_read.specs.Content.{quarter_from, quarterly, yearly};
 ghost use Rattle.node_compile.specs.Laws.{number_in as number_in_cell, numbers_in};
 ghost use Rattle.node_compile.specs.Table.{certificate_in, table_in};
 ghost use Rattle.series_tables.specs.Plan.{is_leaf};
 ghost use Rattle.release_print.specs.Part.{Appends};
-ghost use Rattle.release_print.specs.Certificate.{statement_text, statements_text, head_text, numbers_text, end_text, certificate_text, certificate_or_none, IsPartOf};
+ghost use Rattle.release_print.specs.Certificate.{statement_text, statements_text, head_text, numbers_text, end_text};
+ghost use Rattle.release_print.specs.Certificate.{certificate_text, certificate_or_none, IsPartOf};
 
 use crate::line::{push_line, quarter_text, year_text};
 use itoa::Buffer;
@@ -98,15 +100,20 @@ fn push_benchmark(out: &mut Vec<u8>, year: u16, benchmark: &i64) -> Result<(), M
     push_line(out, b"b", &[&place, buffer.format(*benchmark).as_bytes()])
 }
 
-/// Appends the lines of the benchmarks, from the start year on.
-fn push_benchmarks(out: &mut Vec<u8>, start: u16, benchmarks: &[i64]) -> Result<(), Memory>
+/// Appends the lines of the benchmarks of these years, which are counted from the start year.
+fn push_benchmarks(
+    out: &mut Vec<u8>,
+    start: u16,
+    years: &[u8],
+    benchmarks: &[i64],
+) -> Result<(), Memory>
     requires last { start ≤ 2200 }
-    requires few { length benchmarks.now ≤ 128 }
+    requires placed { length years.now ≡ length benchmarks.now }
     ensures { Appends result out.old.items out.new.items
-        (statements_text (yearly benchmark_line start benchmarks.now)) }
+        (statements_text (yearly benchmark_line start years.now benchmarks.now)) }
 {
-    for (place, benchmark) in benchmarks.iter().enumerate() {
-        push_benchmark(out, start + place as u16, benchmark)?;
+    for (y, benchmark) in benchmarks.iter().enumerate() {
+        push_benchmark(out, start + u16::from(years[y]), benchmark)?;
     }
     Ok(())
 }
@@ -150,7 +157,7 @@ fn number_in(cell: &Cell) -> i128
     }
 }
 
-/// Appends the line of the multiplier after a year.
+/// Appends the line of the multiplier between a benchmarked year and the next.
 fn push_multiplier(out: &mut Vec<u8>, year: u16, multiplier: &i128) -> Result<(), Memory>
     requires { year < 10000 }
     ensures { Appends result out.old.items out.new.items
@@ -161,15 +168,21 @@ fn push_multiplier(out: &mut Vec<u8>, year: u16, multiplier: &i128) -> Result<()
     push_line(out, b"u", &[&place, buffer.format(*multiplier).as_bytes()])
 }
 
-/// Appends the lines of the multipliers, each by the year before it.
-fn push_multipliers(out: &mut Vec<u8>, start: u16, multipliers: &[i128]) -> Result<(), Memory>
+/// Appends the lines of the multipliers, each by the benchmarked year before it. The years are counted from the start
+/// year.
+fn push_multipliers(
+    out: &mut Vec<u8>,
+    start: u16,
+    years: &[u8],
+    multipliers: &[i128],
+) -> Result<(), Memory>
     requires last { start ≤ 2200 }
-    requires few { length multipliers.now ≤ 128 }
+    requires joints { length multipliers.now ≤ length years.now }
     ensures { Appends result out.old.items out.new.items
-        (statements_text (yearly multiplier_line start multipliers.now)) }
+        (statements_text (yearly multiplier_line start years.now multipliers.now)) }
 {
-    for (place, multiplier) in multipliers.iter().enumerate() {
-        push_multiplier(out, start + place as u16, multiplier)?;
+    for (y, multiplier) in multipliers.iter().enumerate() {
+        push_multiplier(out, start + u16::from(years[y]), multiplier)?;
     }
     Ok(())
 }
@@ -204,9 +217,9 @@ fn push_numbers(
         (numbers_text start (certificate_in part.now) cells.now) }
 {
     push_indicators(out, start, &part.ind)?;
-    push_benchmarks(out, start, &part.bench)?;
+    push_benchmarks(out, start, &part.years, &part.bench)?;
     push_values(out, start, cells)?;
-    push_multipliers(out, start, &part.cert.u)
+    push_multipliers(out, start, &part.years, &part.cert.u)
 }
 
 /// Appends the certificate of a leaf with benchmarked years.

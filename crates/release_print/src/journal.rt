@@ -14,7 +14,8 @@ use itoa::Buffer;
 use qna_base::Memory;
 use series_tables::{Input, Kind, Plan};
 
-/// Appends the line of an input: its word, the item's name, the period, the value, and the number of the desk that sent it.
+/// Appends the line of an input: its word, the item's name, the period, the value, and the number of the desk that sent
+/// it.
 fn push_fields(
     out: &mut Vec<u8>,
     word: &[u8],
@@ -91,9 +92,9 @@ fn push_entry(out: &mut Vec<u8>, plan: &Plan, entry: &Entry) -> Result<(), Memor
     }
 }
 
-/// Appends the text of a journal: a line for each accepted input of the history, in order, as it stands in an input, with
-/// the number of the desk that sent it as a fifth field. Values are in the unit of their kind. Publications print nothing.
-/// The inputs fit the plan. After `Memory` a part of the text stands behind what `out` held.
+/// Appends the text of a journal: a line for each accepted input of the history, in order, as it stands in an input,
+/// with the number of the desk that sent it as a fifth field. Values are in the unit of their kind. Publications print
+/// nothing. The inputs fit the plan. After `Memory` a part of the text stands behind what `out` held.
 #[tactic(auto, unfolding(crate::specs::Journal::journal_text))]
 pub fn print_journal(plan: &Plan, history: &[Entry], out: &mut Vec<u8>) -> Result<(), Memory>
     requires { All (FitsPlan plan.now) (inputs_of history.now) }

@@ -5,7 +5,9 @@ ghost use Rattle.node_compile.specs.Release.{tables_in};
 ghost use Rattle.node_compile.specs.Table.{certificate_in, node_tables, table_in};
 ghost use Rattle.release_print.specs.Line.{edge_line};
 ghost use Rattle.release_print.specs.Part.{Appends};
-ghost use Rattle.release_print.specs.Release.{cell_text as cell_text_of, cell_line, cell_lines, quarter_lines, year_line, year_lines, gap_line, item_lines, items_lines, release_text, node_text};
+ghost use Rattle.release_print.specs.Release.{cell_text as cell_text_of, cell_line, cell_lines};
+ghost use Rattle.release_print.specs.Release.{quarter_lines, year_line, year_lines, gap_line, item_lines};
+ghost use Rattle.release_print.specs.Release.{items_lines, release_text, node_text};
 
 use crate::line::{push_line, quarter_text, year_text};
 use itoa::Buffer;

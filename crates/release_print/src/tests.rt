@@ -10,28 +10,29 @@ use std::marker::Brand;
 use std::sync::ledger::{Blank, Ledger};
 use std::test::Fail;
 
-// What was sent for an item: the indicators and the benchmarks.
-type Row = (&'static [i64], &'static [i64]);
+// What was sent for an item: the indicators, and the benchmarks by year.
+type Row = (&'static [i64], &'static [(usize, i64)]);
 
 // The plan of the rows, item by item.
 const PLAN: &[u8] = b"start,2021\nitem,FOOD,\nitem,NONE,\n";
 
-// A step between two years; no benchmark. None has a price.
-const ROWS: [Row; 2] = [
-    (&[100, 100, 100, 100, 100, 100, 100, 100], &[1000, 1400]),
-    (&[100, 100], &[]),
-];
+// Two benchmarked years and one between them that misses its benchmark; no benchmark. None has a price.
+const ROWS: [Row; 2] = [(&[100; 12], &[(0, 1000), (2, 1400)]), (&[100, 100], &[])];
 
 // The lines of the first item, and those of the second.
-const FOOD: [&[u8]; 27] = [
-    b"v,FOOD,2021Q1,227\n",
-    b"v,FOOD,2021Q2,236\n",
-    b"v,FOOD,2021Q3,255\n",
-    b"v,FOOD,2021Q4,282\n",
-    b"v,FOOD,2022Q1,318\n",
-    b"v,FOOD,2022Q2,345\n",
-    b"v,FOOD,2022Q3,364\n",
-    b"v,FOOD,2022Q4,373\n",
+const FOOD: [&[u8]; 40] = [
+    b"v,FOOD,2021Q1,241\n",
+    b"v,FOOD,2021Q2,244\n",
+    b"v,FOOD,2021Q3,252\n",
+    b"v,FOOD,2021Q4,263\n",
+    b"v,FOOD,2022Q1,278\n",
+    b"v,FOOD,2022Q2,293\n",
+    b"v,FOOD,2022Q3,307\n",
+    b"v,FOOD,2022Q4,322\n",
+    b"v,FOOD,2023Q1,337\n",
+    b"v,FOOD,2023Q2,348\n",
+    b"v,FOOD,2023Q3,356\n",
+    b"v,FOOD,2023Q4,359\n",
     b"k,FOOD,2021Q1,missing\n",
     b"k,FOOD,2021Q2,missing\n",
     b"k,FOOD,2021Q3,missing\n",
@@ -40,6 +41,10 @@ const FOOD: [&[u8]; 27] = [
     b"k,FOOD,2022Q2,missing\n",
     b"k,FOOD,2022Q3,missing\n",
     b"k,FOOD,2022Q4,missing\n",
+    b"k,FOOD,2023Q1,missing\n",
+    b"k,FOOD,2023Q2,missing\n",
+    b"k,FOOD,2023Q3,missing\n",
+    b"k,FOOD,2023Q4,missing\n",
     b"c,FOOD,2021Q1,missing\n",
     b"c,FOOD,2021Q2,missing\n",
     b"c,FOOD,2021Q3,missing\n",
@@ -48,9 +53,14 @@ const FOOD: [&[u8]; 27] = [
     b"c,FOOD,2022Q2,missing\n",
     b"c,FOOD,2022Q3,missing\n",
     b"c,FOOD,2022Q4,missing\n",
+    b"c,FOOD,2023Q1,missing\n",
+    b"c,FOOD,2023Q2,missing\n",
+    b"c,FOOD,2023Q3,missing\n",
+    b"c,FOOD,2023Q4,missing\n",
     b"a,FOOD,2021,1000,missing,10000000,0\n",
-    b"a,FOOD,2022,1400,missing,missing,missing\n",
-    b"g,FOOD,2,12,163636363636363636364\n",
+    b"a,FOOD,2022,1200,missing,missing,missing\n",
+    b"a,FOOD,2023,1400,missing,missing,missing\n",
+    b"g,FOOD,2,12,251851851851851851852\n",
 ];
 
 const NONE: [&[u8]; 7] = [
@@ -63,8 +73,8 @@ const NONE: [&[u8]; 7] = [
     b"a,NONE,2021,missing,missing,missing,missing\n",
 ];
 
-// The certificate of the step between two years.
-const CERTIFICATE: [&[u8]; 24] = [
+// The certificate of the first item.
+const CERTIFICATE: [&[u8]; 32] = [
     b"cert,FOOD,10\n",
     b"scale,12\n",
     b"start,2021\n",
@@ -76,18 +86,26 @@ const CERTIFICATE: [&[u8]; 24] = [
     b"i,2022Q2,100\n",
     b"i,2022Q3,100\n",
     b"i,2022Q4,100\n",
+    b"i,2023Q1,100\n",
+    b"i,2023Q2,100\n",
+    b"i,2023Q3,100\n",
+    b"i,2023Q4,100\n",
     b"b,2021,1000\n",
-    b"b,2022,1400\n",
-    b"x,2021Q1,227\n",
-    b"x,2021Q2,236\n",
-    b"x,2021Q3,255\n",
-    b"x,2021Q4,282\n",
-    b"x,2022Q1,318\n",
-    b"x,2022Q2,345\n",
-    b"x,2022Q3,364\n",
-    b"x,2022Q4,373\n",
-    b"u,2021,363636363636\n",
-    b"gap,163636363636363636364\n",
+    b"b,2023,1400\n",
+    b"x,2021Q1,241\n",
+    b"x,2021Q2,244\n",
+    b"x,2021Q3,252\n",
+    b"x,2021Q4,263\n",
+    b"x,2022Q1,278\n",
+    b"x,2022Q2,293\n",
+    b"x,2022Q3,307\n",
+    b"x,2022Q4,322\n",
+    b"x,2023Q1,337\n",
+    b"x,2023Q2,348\n",
+    b"x,2023Q3,356\n",
+    b"x,2023Q4,359\n",
+    b"u,2021,148148148148\n",
+    b"gap,251851851851851851852\n",
     b"end\n",
 ];
 
@@ -118,8 +136,8 @@ fn set_row(tables: &mut Tables, plan: &Plan, item: usize, row: Row)
     for (period, value) in row.0.iter().enumerate() {
         set(tables, plan, item, Kind::Indicator, period, *value);
     }
-    for (period, value) in row.1.iter().enumerate() {
-        set(tables, plan, item, Kind::Benchmark, period, *value);
+    for (period, value) in row.1.iter() {
+        set(tables, plan, item, Kind::Benchmark, *period, *value);
     }
 }
 

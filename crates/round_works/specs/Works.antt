@@ -1,5 +1,5 @@
 -- What an item's table is made from: the work of its job. Its meaning is that of the compilation from scratch.
-use Rattle.std.specs.Prelude.{ℕ, ◌-◌, ◌*◌, ◌/◌, ℤ, List, map, length, if◌then◌else◌, Option, None, unsigned_abs}
+use Rattle.std.specs.Prelude.{ℕ, ◌*◌, ◌/◌, ℤ, List, map, length, if◌then◌else◌, Option, None, unsigned_abs}
 use Rattle.std.specs.Option.{option_map}
 use Rattle.aggregate_tree.specs.Leaves.{added}
 use Rattle.aggregate_tree.specs.Tallies.{cells_of}
@@ -11,7 +11,7 @@ use Rattle.series_tables.specs.Tree.{leaves_under}
 use Rattle.series_tables.specs.declared.input.Input.{Input}
 use Rattle.series_tables.specs.declared.input.Kind.{Kind}
 use Rattle.series_tables.specs.declared.input.Kind.TheVariants.{Indicator, Benchmark, Price}
-use Rattle.node_compile.specs.Leaf.{benchmark_run, leaf_table, chained_table}
+use Rattle.node_compile.specs.Leaf.{joints_in, leaf_table, chained_table}
 use Rattle.node_compile.specs.Release.{item_table, values_of_leaves, volumes_of_leaves}
 use Rattle.node_compile.specs.Table.{Table}
 use Rattle.round_works.specs.declared.work.Work.{Work}
@@ -61,5 +61,5 @@ table_of_work reference (inner_work values volumes) = chained_table None values 
 
 -- the most steps that the solver takes for a work: 192 a joint between a leaf's benchmarked years
 abbrev pub most_steps_of : ItemWork → ℕ
-most_steps_of (leaf_work indicators prices benchmarks) = 192 * (length (benchmark_run benchmarks) - 1)
+most_steps_of (leaf_work indicators prices benchmarks) = 192 * joints_in benchmarks
 most_steps_of (inner_work values volumes) = 0

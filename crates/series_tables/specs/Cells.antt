@@ -1,5 +1,6 @@
 -- What tables hold: a cell for each kind, leaf and period.
-use Rattle.std.specs.Prelude.{◌≡◌, ℕ, ℤ, pos, zero, suc, ◌+◌, ◌*◌, ◌/◌, nat_lt, List, [], ◌∷◌, length, map, Option, Some, None, if◌then◌else◌, slice_index_or}
+use Rattle.std.specs.Prelude.{◌≡◌, ℕ, ℤ, pos, zero, suc, ◌+◌, ◌*◌, ◌/◌, nat_lt, List, [], ◌∷◌, length, map}
+use Rattle.std.specs.Prelude.{Option, Some, None, if◌then◌else◌, slice_index_or}
 use Rattle.std.specs.Option.{option_map}
 use Rattle.series_tables.specs.declared.input.Input.{Input}
 use Rattle.series_tables.specs.declared.input.Kind.{Kind}
@@ -32,8 +33,10 @@ abbrev pub cells_from : (ℕ → Option ℤ) → ℕ → ℕ → List (Option �
 cells_from value_at zero period = []
 cells_from value_at (suc more) period = value_at period ∷ cells_from value_at more (suc period)
 
--- a leaf's input: the run of its indicator, a price or none for each quarter of the run, a benchmark or none for each whole year of it
-pub record IsInputOf (value_at : Kind → ℕ → Option ℤ) (indicators : List ℕ) (prices : List (Option ℕ)) (benchmarks : List (Option ℤ)) : Type 0 where
+-- a leaf's input: the run of its indicator, a price or none for each quarter of the run, a benchmark or none for each
+-- whole year of it
+pub record IsInputOf (value_at : Kind → ℕ → Option ℤ) (indicators : List ℕ) (prices : List (Option ℕ))
+    (benchmarks : List (Option ℤ)) : Type 0 where
   pub run : map (λ n. pos n) indicators ≡ run_of (value_at Indicator)
   pub priced : map (option_map (λ n. pos n)) prices ≡ cells_from (value_at Price) (length indicators) 0
   pub benchmarked : benchmarks ≡ cells_from (value_at Benchmark) (length indicators / 4) 0

@@ -4,7 +4,8 @@ use Rattle.series_tables.specs.declared.input.Input.{Input}
 use Rattle.series_tables.specs.LastValue.{periods_of, least_of, most_of}
 use Rattle.series_tables.specs.Plan.{PlanShape, is_leaf}
 
--- tables of so many items have room for an input: it names one of the items, a period of the plan's years, and a value in its kind's range
+-- tables of so many items have room for an input: it names one of the items, a period of the plan's years, and a value
+-- in its kind's range
 pub record HasRoom (items : ℕ) (input : Input) : Type 0 where
   pub item : input.leaf < items
   pub period : input.period < periods_of input.kind

@@ -4,7 +4,8 @@ use Rattle.series_tables.specs.declared.item.Item.{Item}
 use Rattle.series_tables.specs.Items.{AreNames, AreBackward}
 use Rattle.series_tables.specs.Plan.{PlanShape}
 
--- a first year from 1900 to 2200, a reference year of its 64, and at most 512 items: their names are names and differ, and each parent stands before its children
+-- a first year from 1900 to 2200, a reference year of its 64, and at most 512 items: their names are names and differ,
+-- and each parent stands before its children
 pub record IsPlan (plan : PlanShape) : Type 0 where
   pub first : 1900 ≤ plan.start
   pub last : plan.start ≤ 2200
@@ -23,4 +24,5 @@ parents_of items = map (λ item. item.parent) items
 
 -- the plan of a first year, a reference year counted from it, and items
 abbrev pub plan_with : ℕ → ℕ → List Item → PlanShape
-plan_with start reference items = record { start = start; reference = reference; names = names_of items; parents = parents_of items }
+plan_with start reference items =
+    record { start = start; reference = reference; names = names_of items; parents = parents_of items }

@@ -1,5 +1,6 @@
 -- The items of a plan, as lists of their names and parents.
-use Rattle.std.specs.Prelude.{ℕ, suc, ◌<◌, ◌≢◌, Bool, false, not, IsTrue, List, EachIndex, All, map, drop, length, slice_index_or, slice_set, Option, Some, None}
+use Rattle.std.specs.Prelude.{ℕ, suc, ◌<◌, ◌≢◌, Bool, false, not, IsTrue, List, EachIndex, All, map, drop, length}
+use Rattle.std.specs.Prelude.{slice_index_or, slice_set, Option, Some, None}
 use Rattle.std.specs.List.{AllPairs, list_any, range_with_len}
 use Rattle.std.specs.Option.{ForSome}
 use Rattle.line_form.specs.Name.{is_name}
@@ -24,7 +25,8 @@ unfoldable pub leaf_flags : List (Option ℕ) → List Bool
 leaf_flags parents = map (λ node. not (list_any (is_parent node) parents)) (range_with_len 0 (length parents))
 
 unfoldable pub leaf_flags_behind : List (Option ℕ) → List Bool
-leaf_flags_behind parents = map (λ node. not (list_any (is_parent node) (drop (suc node) parents))) (range_with_len 0 (length parents))
+leaf_flags_behind parents =
+    map (λ node. not (list_any (is_parent node) (drop (suc node) parents))) (range_with_len 0 (length parents))
 
 -- the flags once an item is known to be a parent, or none is
 abbrev pub marked : Option ℕ → List Bool → List Bool

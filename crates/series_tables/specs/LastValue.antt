@@ -1,5 +1,6 @@
 -- The last value of a list of inputs, and the run of quarters that have one.
-use Rattle.std.specs.Prelude.{ℕ, ℤ, pos, ◌^◌, neg_ℤ, zero, suc, Bool, true, false, ◌&&◌, ◌==◌, List, [], ◌∷◌, Option, Some, None, if◌then◌else◌}
+use Rattle.std.specs.Prelude.{ℕ, ℤ, pos, ◌^◌, neg_ℤ, zero, suc, Bool, true, false, ◌&&◌, ◌==◌, List, [], ◌∷◌}
+use Rattle.std.specs.Prelude.{Option, Some, None, if◌then◌else◌}
 use Rattle.series_tables.specs.declared.input.Input.{Input}
 use Rattle.series_tables.specs.declared.input.Kind.{Kind}
 use Rattle.series_tables.specs.declared.input.Kind.TheVariants.{Indicator, Benchmark, Price}
@@ -28,7 +29,8 @@ last_value inputs kind leaf period = last_from None inputs kind leaf period
 -- the values at the next so many periods, from one on, before the first period without a value
 abbrev pub run_from : (ℕ → Option ℤ) → ℕ → ℕ → List ℤ
 run_from value_at zero period = []
-run_from value_at (suc more) period = elim (value_at period) [ None ↦ [] | Some value ↦ value ∷ run_from value_at more (suc period) ]
+run_from value_at (suc more) period =
+    elim (value_at period) [ None ↦ [] | Some value ↦ value ∷ run_from value_at more (suc period) ]
 
 -- a plan's years have so many quarters
 abbrev pub quarters : ℕ

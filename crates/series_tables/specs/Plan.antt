@@ -1,5 +1,7 @@
--- Plans: the first year, the reference year and the items, and the text that spells them or the first line of it that is refused.
-use Rattle.std.specs.Prelude.{ℕ, ◌-◌, Bool, false, not, ◌&&◌, ◌==◌, nat_le, List, [], ◌∷◌, ◌++◌, length, position, Option, Some, None, is_some, unwrap_or, Result, Ok, Err, if◌then◌else◌}
+-- Plans: the first year, the reference year and the items, and the text that spells them or the first line of it that
+-- is refused.
+use Rattle.std.specs.Prelude.{ℕ, ◌-◌, Bool, false, not, ◌&&◌, ◌==◌, nat_le, List, [], ◌∷◌, ◌++◌, length, position}
+use Rattle.std.specs.Prelude.{Option, Some, None, is_some, unwrap_or, Result, Ok, Err, if◌then◌else◌}
 use Rattle.std.specs.Option.{option_map, option_or}
 use Rattle.std.specs.List.{list_any, filter_map}
 use Rattle.std.specs.Str.{bytes_eq}
@@ -9,7 +11,8 @@ use Rattle.series_tables.specs.declared.cause.PlanCause.{PlanCause}
 use Rattle.series_tables.specs.declared.cause.PlanCause.TheVariants.{Form, NoStart, Twice, Year, NoParent, TooMany}
 use Rattle.series_tables.specs.PlanLine.{PlanEntry, start_entry, reference_entry, item_entry, said}
 
--- what a plan holds: its first year, the reference year counted from it, and the items' names and parents in the order of their numbers
+-- what a plan holds: its first year, the reference year counted from it, and the items' names and parents in the order
+-- of their numbers
 pub record PlanShape : Type 0 where
   pub start : ℕ
   pub reference : ℕ
@@ -62,9 +65,11 @@ unfoldable pub parents_from : List (List ℕ) → List PlanEntry → List (Optio
 parents_from names [] = []
 parents_from names (start_entry year ∷ entries) = parents_from names entries
 parents_from names (reference_entry year ∷ entries) = parents_from names entries
-parents_from names (item_entry name parent ∷ entries) = parent_among names parent ∷ parents_from (names ++ name ∷ []) entries
+parents_from names (item_entry name parent ∷ entries) =
+    parent_among names parent ∷ parents_from (names ++ name ∷ []) entries
 
--- what is gathered of entries: the first year and the reference year, each where an entry gives one, and the items' names and parents
+-- what is gathered of entries: the first year and the reference year, each where an entry gives one, and the items'
+-- names and parents
 pub record Gathered : Type 0 where
   pub start : Option ℕ
   pub reference : Option ℕ
@@ -96,7 +101,8 @@ is_second before (start_entry year) = is_some before.start
 is_second before (reference_entry year) = is_some before.reference
 is_second before (item_entry name parent) = has_item before name
 
--- whether an entry's year is out of range: a first year is from 1900 to 2200, a reference year one of the 64 from the first
+-- whether an entry's year is out of range: a first year is from 1900 to 2200, a reference year one of the 64 from the
+-- first
 abbrev pub is_out_of_range : Gathered → PlanEntry → Bool
 is_out_of_range before (start_entry year) = not (nat_le 1900 year && nat_le year 2200)
 is_out_of_range before (reference_entry year) = not (is_within (unwrap_or before.start 0) year)
@@ -142,7 +148,8 @@ pub record PlanRefusal : Type 0 where
 unfoldable pub refusal_of : List TextLine → TextLine → Option PlanRefusal
 refusal_of before line =
     if is_passed_over line then None
-    else option_map (λ cause. record { line = line.number; cause = cause }) (cause_of (gathered (filter_map given before)) (said line))
+    else option_map (λ cause. record { line = line.number; cause = cause })
+    (cause_of (gathered (filter_map given before)) (said line))
 
 -- the first refusal of a line, where these lines stand before them
 unfoldable pub first_refusal : List TextLine → List TextLine → Option PlanRefusal
@@ -158,7 +165,12 @@ years_on start (Some year) = year - start
 abbrev pub plan_given : Gathered → ℕ → Result PlanShape PlanRefusal
 plan_given all missing = elim all.start [
   | None ↦ Err (record { line = missing; cause = NoStart })
-  | Some start ↦ Ok (record { start = start; reference = years_on start all.reference; names = all.names; parents = all.parents })
+  | Some start ↦ Ok (record {
+    start = start;
+    reference = years_on start all.reference;
+    names = all.names;
+    parents = all.parents;
+  })
 ]
 
 -- the plan of all lines, of which none is refused; without a first year that is the line after the last

@@ -7,7 +7,8 @@ use Rattle.line_form.specs.Fields.{record_of}
 use Rattle.line_form.specs.Name.{is_name}
 use Rattle.period_keys.specs.Period.{year_of}
 
--- what a line of the three forms says: the first year, the reference year, or an item by its name and its parent's, which is empty for a root
+-- what a line of the three forms says: the first year, the reference year, or an item by its name and its parent's,
+-- which is empty for a root
 pub data PlanEntry : Type 0 where
   start_entry : (year : ℕ) → PlanEntry
   reference_entry : (year : ℕ) → PlanEntry
@@ -22,7 +23,8 @@ year_entry word year =
 
 -- a record of a word, a name and a parent
 abbrev pub named_entry : List ℕ → List ℕ → List ℕ → Option PlanEntry
-named_entry word name parent = if bytes_eq word (codes "item") && is_name name then Some (item_entry name parent) else None
+named_entry word name parent =
+    if bytes_eq word (codes "item") && is_name name then Some (item_entry name parent) else None
 
 -- what a record says, or none where it is of none of the three forms
 unfoldable pub entry_of : List (List ℕ) → Option PlanEntry

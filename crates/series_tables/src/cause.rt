@@ -13,7 +13,8 @@ use thiserror::Error;
 pub enum PlanCause {
     /// The line is long, isn't a record of the three forms, its year isn't four digits, or its name isn't a name.
     Form,
-    /// No start year stands before the line, and it gives none. Also told of the line after the last, where no line gives a start year.
+    /// No start year stands before the line, and it gives none. Also told of the line after the last, where no line
+    /// gives a start year.
     NoStart,
     /// A second start year, a second reference year, or an item with a name that an item has.
     Twice,

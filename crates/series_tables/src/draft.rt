@@ -1,7 +1,9 @@
 //! What the lines of a plan give so far, and whether a further one may stand behind them.
 
 ghost use Rattle.std.specs.Prelude.{◌≡◌, ◌<◌, ◌≤◌, Some, None, Ok, false, is_some, length, IfOk, IfErr, OnOk};
-ghost use Rattle.series_tables.specs.Plan.{plan_given, years_on as years_on_of, is_early as is_early_of, is_second as is_second_of, is_out_of_range as is_out_of_range_of, is_orphan as is_orphan_of, is_past_last as is_past_last_of, cause_of_entry};
+ghost use Rattle.series_tables.specs.Plan.{plan_given, years_on as years_on_of, is_early as is_early_of};
+ghost use Rattle.series_tables.specs.Plan.{is_second as is_second_of, is_out_of_range as is_out_of_range_of};
+ghost use Rattle.series_tables.specs.Plan.{is_orphan as is_orphan_of, is_past_last as is_past_last_of, cause_of_entry};
 ghost use Rattle.period_keys.specs.Period.{is_within as is_within_of};
 ghost use Rattle.series_tables.specs.PlanError.{Refuses};
 ghost use Rattle.series_tables.specs.PlanReading.{nothing, with_entry};
@@ -36,7 +38,12 @@ impl Model for Draft {
 
     ghost Value = { Gathered };
 
-    ghost view = { λ d. record { start = d.start; reference = d.reference; names = d.items.names; parents = d.items.parents } };
+    ghost view = { λ d. record {
+      start = d.start;
+      reference = d.reference;
+      names = d.items.names;
+      parents = d.items.parents;
+    } };
 
     ghost invariant = { λ d. IsStartInRange d.start × IsReferenceInRange d.start d.reference };
 }
@@ -142,7 +149,8 @@ impl Draft {
         Ok(())
     }
 
-    /// The plan of what all lines give, where one of them gives the first year; `missing` is the number of the line after the last.
+    /// The plan of what all lines give, where one of them gives the first year; `missing` is the number of the line
+    /// after the last.
     pub(crate) fn finish(self, alloc: Global, missing: u64) -> Result<Plan, PlanError>
         ensures plan { IfOk result (λ plan. plan_given self missing ≡ Ok plan) }
         ensures fault { IfErr result (Refuses (plan_given self missing)) }

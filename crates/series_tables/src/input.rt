@@ -11,8 +11,8 @@ pub enum Kind {
     Price,
 }
 
-/// One value of one leaf in one period. It fits a plan where its item is a leaf of the plan, the period is below 256 (below
-/// 64 for a benchmark), and the value is in its kind's range.
+/// One value of one leaf in one period. It fits a plan where its item is a leaf of the plan, the period is below 256
+/// (below 64 for a benchmark), and the value is in its kind's range.
 #[derive(Clone, Copy, Debug, PartialEq, Eq)]
 pub struct Input {
     /// What the value is.

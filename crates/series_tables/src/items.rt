@@ -1,12 +1,14 @@
 //! The items of a plan: their names, each found by its bytes, and their parents.
 
-ghost use Rattle.std.specs.Prelude.{◌≡◌, ◌<◌, ◌≤◌, ◌++◌, ◌∷◌, [], Some, None, true, false, length, map, position, replicate, slice_get, slice_index_or, IsTrue, IfOk, IfSome, OnOk, OnErr};
+ghost use Rattle.std.specs.Prelude.{◌≡◌, ◌<◌, ◌≤◌, ◌++◌, ◌∷◌, [], Some, None, true, false, length, map, position};
+ghost use Rattle.std.specs.Prelude.{replicate, slice_get, slice_index_or, IsTrue, IfOk, IfSome, OnOk, OnErr};
 ghost use Rattle.std.specs.Option.{ForSome};
 ghost use Rattle.std.specs.List.{list_any};
 ghost use Rattle.std.specs.Str.{bytes_eq};
 ghost use Rattle.line_form.specs.Name.{is_name};
 ghost use Rattle.series_tables.specs.IsPlan.{names_of, parents_of};
-ghost use Rattle.series_tables.specs.Items.{AreBackward as AreBackwardOf, AreNames, leaf_flags as leaf_flags_of, leaf_flags_behind, marked};
+ghost use Rattle.series_tables.specs.Items.{AreBackward as AreBackwardOf, AreNames, leaf_flags as leaf_flags_of};
+ghost use Rattle.series_tables.specs.Items.{leaf_flags_behind, marked};
 ghost use Rattle.series_tables.specs.Plan.{parent_among as parent_among_of};
 
 use crate::item::Item;

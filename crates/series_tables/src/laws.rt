@@ -8,8 +8,8 @@ ghost use Rattle.series_tables.specs.Plan.{PlanShape, plan_of};
 ghost use Rattle.series_tables.specs.declared.input.Input.{Input};
 ghost use Rattle.series_tables.specs.declared.input.Kind.{Kind};
 
-/// A plan that a text spells keeps what every plan keeps: its years are in range, it has at most 512 items, their names are names
-/// and differ, and each parent stands before its children.
+/// A plan that a text spells keeps what every plan keeps: its years are in range, it has at most 512 items, their names
+/// are names and differ, and each parent stands before its children.
 pub fn spelled_plans_are_plans()
     ensures { (text : List ℕ) (plan : PlanShape) → plan_of text ≡ Ok plan → IsPlan plan }
 {}

@@ -20,6 +20,3 @@ pub use laws::{last_values_go_on, spelled_plans_are_plans};
 pub use leaf_input::LeafInput;
 pub use plan::Plan;
 pub use tables::Tables;
-
-#[cfg(test)]
-mod tests;

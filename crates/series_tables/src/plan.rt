@@ -1,6 +1,7 @@
 //! The plan: the first year, the reference year and the items.
 
-ghost use Rattle.std.specs.Prelude.{◌≡◌, ◌<◌, ◌≤◌, ◌↔◌, Some, None, Ok, not, suc, drop, length, slice_get, slice_index_or, IsTrue, IfOk, IfErr, IfSome};
+ghost use Rattle.std.specs.Prelude.{◌≡◌, ◌<◌, ◌≤◌, ◌↔◌, Some, None, Ok, not, suc, drop, length};
+ghost use Rattle.std.specs.Prelude.{slice_get, slice_index_or, IsTrue, IfOk, IfErr, IfSome};
 ghost use Rattle.period_keys.specs.declared.Year.{Year as YearPlace};
 ghost use Rattle.std.specs.List.{list_any};
 ghost use Rattle.line_form.specs.Name.{is_name};
@@ -17,8 +18,8 @@ use qna_base::Memory;
 use std::alloc::Global;
 use std::marker::Model;
 
-/// The first year, the reference year, and the items in their order. Items are numbered from 0, and a parent has a smaller number
-/// than its children. Their names are names, and no two are one.
+/// The first year, the reference year, and the items in their order. Items are numbered from 0, and a parent has a
+/// smaller number than its children. Their names are names, and no two are one.
 #[derive(Drop)]
 pub struct Plan {
     start: u16,
@@ -51,12 +52,13 @@ impl Model for Plan {
 impl Plan {
     ghost use Rattle.series_tables.specs.PlanError.{Explains};
 
-    /// Reads a plan: lines `start,YEAR`, `reference,YEAR` and `item,NAME,PARENT`, with empty lines and lines that begin with `#`
-    /// passed over and counted. `start` comes first and once, with a year from 1900 to 2200; `reference` once at most, with one of
-    /// the 64 years from the first on. A name is 1 to 32 ASCII letters, digits, `_`, `.` or `-`, no two items have one name, PARENT is empty
-    /// or the name of an earlier item, and there are at most 512 items.
+    /// Reads a plan: lines `start,YEAR`, `reference,YEAR` and `item,NAME,PARENT`, with empty lines and lines that begin
+    /// with `#` passed over and counted. `start` comes first and once, with a year from 1900 to 2200; `reference` once
+    /// at most, with one of the 64 years from the first on. A name is 1 to 32 ASCII letters, digits, `_`, `.` or `-`,
+    /// no two items have one name, PARENT is empty or the name of an earlier item, and there are at most 512 items.
     ///
-    /// A fault names the first line that is refused, with the first cause that applies to it. The form is this product's own.
+    /// A fault names the first line that is refused, with the first cause that applies to it. The form is this
+    /// product's own.
     pub fn read(alloc: Global, text: &[u8]) -> Result<Plan, PlanError>
         ensures plan { IfOk result (λ plan. plan_of text.now ≡ Ok plan) }
         ensures fault { IfErr result (Explains text.now) }
@@ -64,8 +66,9 @@ impl Plan {
         read_text(alloc, text)
     }
 
-    /// Makes a plan of its parts: a first year from 1900 to 2200, a reference year of the 64 from there on, and at most 512 items, numbered from
-    /// 0 in their order. No two items have one name, and each parent stands before its children.
+    /// Makes a plan of its parts: a first year from 1900 to 2200, a reference year of the 64 from there on, and at most
+    /// 512 items, numbered from 0 in their order. No two items have one name, and each parent stands before its
+    /// children.
     pub fn new(alloc: Global, start: u16, reference: Year, items: &[Item]) -> Result<Plan, Memory>
         requires { IsPlan (plan_with start reference.0 items.now) }
         ensures { IfOk result (λ plan. plan ≡ plan_with start reference.0 items.now) }
@@ -153,7 +156,8 @@ impl Plan {
     pub fn is_leaf(&self, node: u16) -> bool
         requires { node < length self.now.names }
         ensures leaf { result ≡ is_leaf_of self.now node }
-        ensures behind { result ≡ not (list_any (is_parent node) (drop (suc node) self.now.parents)) }
+        ensures behind { result
+            ≡ not (list_any (is_parent node) (drop (suc node) self.now.parents)) }
     {
         self.leaves[node as usize]
     }

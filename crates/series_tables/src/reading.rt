@@ -48,7 +48,8 @@ pub(crate) fn read_text(alloc: Global, text: &[u8]) -> Result<Plan, PlanError>
 fn take_line(alloc: Global, line: &Line, draft: &mut Draft) -> Result<(), PlanError>
     ensures free { OnOk result (cause_of draft.old (said (line_view line.now)) ≡ None) }
     ensures taken { OnOk result (draft.new ≡ with_said draft.old (said (line_view line.now))) }
-    ensures fault { IfErr result (IsCauseAt line.now.number (cause_of draft.old (said (line_view line.now)))) }
+    ensures fault { IfErr result
+        (IsCauseAt line.now.number (cause_of draft.old (said (line_view line.now)))) }
 {
     let record = match fields(alloc, line) {
         Ok(record) => record,
@@ -77,7 +78,8 @@ fn fault_at(line: &Line, cause: PlanCause) -> PlanError
 
 /// Takes all lines of a text, a piece of it at a time.
 fn take_text(alloc: Global, text: &[u8], progress: &mut Progress) -> Result<(), PlanError>
-    ensures taken { OnOk result (outcome progress.old (lines_of text.now) ≡ outcome progress.new []) }
+    ensures taken { OnOk result
+        (outcome progress.old (lines_of text.now) ≡ outcome progress.new []) }
     ensures fault { IfErr result (Refuses (outcome progress.old (lines_of text.now))) }
 {
     let mut lines = Lines::new(alloc)?;
@@ -94,10 +96,14 @@ fn take_text(alloc: Global, text: &[u8], progress: &mut Progress) -> Result<(), 
 
 /// Takes the lines that wait.
 fn take_waiting(alloc: Global, lines: &mut Lines, progress: &mut Progress) -> Result<(), PlanError>
-    ensures taken { (rest : List TextLine) → OnOk result (outcome progress.old (lines.old.waiting ++ rest) ≡ outcome progress.new rest) }
-    ensures fault { (rest : List TextLine) → IfErr result (Refuses (outcome progress.old (lines.old.waiting ++ rest))) }
+    ensures taken { (rest : List TextLine) →
+        OnOk result (outcome progress.old (lines.old.waiting ++ rest) ≡ outcome progress.new rest) }
+    ensures fault { (rest : List TextLine) →
+        IfErr result (Refuses (outcome progress.old (lines.old.waiting ++ rest))) }
     ensures none { OnOk result (lines.new.waiting ≡ []) }
-    ensures lines { (stream : List ℕ) (handed : List TextLine) → IsCutOf lines.old stream handed → OnOk result (IsCutOf lines.new stream (handed ++ lines.old.waiting)) }
+    ensures lines { (stream : List ℕ) (handed : List TextLine) →
+        IsCutOf lines.old stream handed →
+        OnOk result (IsCutOf lines.new stream (handed ++ lines.old.waiting)) }
     ensures ended { OnOk result (lines.new.ended ≡ lines.old.ended) }
 {
     'lines: while let Some(line) = lines.next_line() {
@@ -120,8 +126,10 @@ impl Progress {
     /// Takes the next line.
     #[tactic(auto, using(crate::proofs::Outcomes::outcome_past, crate::proofs::Outcomes::outcome_taken, crate::proofs::Outcomes::fault_of_line))]
     fn take(&mut self, alloc: Global, line: &Line) -> Result<(), PlanError>
-        ensures taken { (rest : List TextLine) → OnOk result (outcome self.old (line_view line.now ∷ rest) ≡ outcome self.new rest) }
-        ensures fault { (rest : List TextLine) → IfErr result (Refuses (outcome self.old (line_view line.now ∷ rest))) }
+        ensures taken { (rest : List TextLine) →
+            OnOk result (outcome self.old (line_view line.now ∷ rest) ≡ outcome self.new rest) }
+        ensures fault { (rest : List TextLine) →
+            IfErr result (Refuses (outcome self.old (line_view line.now ∷ rest))) }
     {
         if !is_passed_over(line) {
             take_line(alloc, line, &mut self.draft)?;

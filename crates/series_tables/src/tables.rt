@@ -1,6 +1,7 @@
 //! The last value of each kind, leaf and period.
 
-ghost use Rattle.std.specs.Prelude.{◌≡◌, ◌<◌, ◌≤◌, ◌≤ℤ◌, ◌+◌, ◌*◌, ◌^◌, ◌==◌, ◌&&◌, if◌then◌else◌, ℕ, Some, length, vec_len, slice_set, replicate, map, pos, take, drop, IfOk, None};
+ghost use Rattle.std.specs.Prelude.{◌≡◌, ◌<◌, ◌≤◌, ◌≤ℤ◌, ◌+◌, ◌*◌, ◌^◌, ◌==◌, ◌&&◌, if◌then◌else◌, ℕ, Some, length};
+ghost use Rattle.std.specs.Prelude.{vec_len, slice_set, replicate, map, pos, take, drop, IfOk, None};
 ghost use Rattle.series_tables.specs.Fits.{HasRoom};
 ghost use Rattle.series_tables.specs.Cells.{Rows, at_place, cell, after_input, IsInputOf, present_run};
 ghost use Rattle.series_tables.specs.Ranges.{AreRows};
@@ -18,8 +19,8 @@ const QUARTERS: usize = 256;
 /// The years of a plan, from its start year on.
 const YEARS: usize = 64;
 
-/// For each item a row of 256 quarters with indicators, one with prices, and a row of 64 years with benchmarks. The room for
-/// all is taken at once.
+/// For each item a row of 256 quarters with indicators, one with prices, and a row of 64 years with benchmarks. The
+/// room for all is taken at once.
 #[derive(Drop)]
 pub struct Tables {
     alloc: Global,

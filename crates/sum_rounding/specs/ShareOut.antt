@@ -1,6 +1,8 @@
--- The share-out of a whole total over parts: each place gets the floor of its part over the divisor, and the units that are then left go one each
--- to the places with the largest remainders, the earlier place first on a tie. It is this product's own rule.
-use Rattle.std.specs.Prelude.{◌≡◌, ℕ, ◌+◌, ◌<◌, ℤ, pos, ◌+ℤ◌, ◌-ℤ◌, ◌*ℤ◌, ◌<ℤ◌, int_lt, int_le, if◌then◌else◌, ◌⊎◌, List, [], ◌∷◌, ◌++◌, map, length, count_by, slice_index_or}
+-- The share-out of a whole total over parts: each place gets the floor of its part over the divisor, and the units that
+-- are then left go one each to the places with the largest remainders, the earlier place first on a tie. It is this
+-- product's own rule.
+use Rattle.std.specs.Prelude.{◌≡◌, ℕ, ◌+◌, ◌<◌, ℤ, pos, ◌+ℤ◌, ◌-ℤ◌, ◌*ℤ◌, ◌<ℤ◌, int_lt, int_le, if◌then◌else◌, ◌⊎◌}
+use Rattle.std.specs.Prelude.{List, [], ◌∷◌, ◌++◌, map, length, count_by, slice_index_or}
 use Rattle.ratio_arith.specs.Division.{floor_of}
 
 -- the sum of whole numbers
@@ -17,14 +19,16 @@ added _ _ = []
 abbrev pub remainder_of : ℤ → ℤ → ℤ
 remainder_of part den = part -ℤ den *ℤ floor_of part den
 
--- how many remainders come before this one: those at earlier places that are as large, and those at later places that are larger
+-- how many remainders come before this one: those at earlier places that are as large, and those at later places that
+-- are larger
 abbrev pub rank_of : List ℤ → ℤ → List ℤ → ℕ
 rank_of before mine after = count_by (λ r. int_le mine r) before + count_by (λ r. int_lt mine r) after
 
 -- one unit for each remainder whose rank is below what is left, and none for the others
 abbrev pub units_of : ℤ → List ℤ → List ℤ → List ℤ
 units_of left before [] = []
-units_of left before (r ∷ rs) = (if int_lt (pos (rank_of before r rs)) left then pos 1 else pos 0) ∷ units_of left (before ++ r ∷ []) rs
+units_of left before (r ∷ rs) =
+    (if int_lt (pos (rank_of before r rs)) left then pos 1 else pos 0) ∷ units_of left (before ++ r ∷ []) rs
 
 -- the share-out as a function of ranks: to each floor its unit, if it gets one
 unfoldable pub share_of : List ℤ → ℤ → ℤ → List ℤ
@@ -55,7 +59,8 @@ pub record IsShareOut (parts : List ℤ) (den total : ℤ) (out : List ℤ) : Ty
   pub same_length : length out ≡ length parts
   pub floor_or_more : (i : ℕ) → i < length parts → GotFloor parts den out i ⊎ GotOneMore parts den out i
   pub adds_up : sum_of out ≡ total
-  pub largest_first : (i j : ℕ) → i < length parts → j < length parts → GotOneMore parts den out i → GotFloor parts den out j → ComesBefore parts den i j
+  pub largest_first : (i j : ℕ) → i < length parts → j < length parts →
+      GotOneMore parts den out i → GotFloor parts den out j → ComesBefore parts den i j
 
 -- the parts are four, the divisor is positive, and the parts add up to the divisor times the total
 pub record CanShare (parts : List ℤ) (den total : ℤ) : Type 0 where
@@ -65,8 +70,12 @@ pub record CanShare (parts : List ℤ) (den total : ℤ) : Type 0 where
 
 -- the law that the function of ranks gives a share-out
 abbrev pub RanksShareOut : Type 0
-RanksShareOut = (parts : List ℤ) (den total : ℤ) → CanShare parts den total → IsShareOut parts den total (share_of parts den total)
+RanksShareOut =
+    (parts : List ℤ) (den total : ℤ)
+    → CanShare parts den total → IsShareOut parts den total (share_of parts den total)
 
 -- the law that four parts have at most one share-out
 abbrev pub IsOnlyShareOut : Type 0
-IsOnlyShareOut = (parts : List ℤ) (den total : ℤ) (one other : List ℤ) → length parts ≡ 4 → IsShareOut parts den total one → IsShareOut parts den total other → one ≡ other
+IsOnlyShareOut =
+    (parts : List ℤ) (den total : ℤ) (one other : List ℤ)
+    → length parts ≡ 4 → IsShareOut parts den total one → IsShareOut parts den total other → one ≡ other

@@ -2,9 +2,11 @@
 #![tactic(auto)]
 
 ghost use Rattle.ratio_arith.specs.Division.{floor_of};
-ghost use Rattle.std.specs.Prelude.{◌≡◌, ◌≤◌, ◌^◌, ◌+◌, ◌*◌, ℤ, pos, ◌<ℤ◌, ◌≤ℤ◌, ◌*ℤ◌, ◌-ℤ◌, ◌+ℤ◌, map, int_lt, if◌then◌else◌, [], ◌∷◌, unsigned_abs, length, ◌<◌};
+ghost use Rattle.std.specs.Prelude.{◌≡◌, ◌≤◌, ◌^◌, ◌+◌, ◌*◌, ℤ, pos, ◌<ℤ◌, ◌≤ℤ◌, ◌*ℤ◌, ◌-ℤ◌, ◌+ℤ◌, map, int_lt};
+ghost use Rattle.std.specs.Prelude.{if◌then◌else◌, [], ◌∷◌, unsigned_abs, length, ◌<◌};
 ghost use Rattle.std.specs.List.{All};
-ghost use Rattle.sum_rounding.specs.ShareOut.{share_of, sum_of, remainder_of, rank_of, units_of, added, IsShareOut, RanksShareOut, IsOnlyShareOut};
+ghost use Rattle.sum_rounding.specs.ShareOut.{share_of, sum_of, remainder_of, rank_of, units_of, added};
+ghost use Rattle.sum_rounding.specs.ShareOut.{IsShareOut, RanksShareOut, IsOnlyShareOut};
 
 use ratio_arith::floor_div;
 
@@ -59,9 +61,9 @@ fn hand_out(floors: &[i128; 4], rests: &[i128; 4], left: i128, out: &mut [i128; 
     }
 }
 
-/// Shares a total out over four quarters: each gets the floor of its part over the divisor, and the units that are then left, none to three, go one
-/// each to the quarters with the largest remainders, the earlier quarter first on a tie. So the quarters add up to the total. The numbers are whole,
-/// in any unit. The rule of rounding is this product's own.
+/// Shares a total out over four quarters: each gets the floor of its part over the divisor, and the units that are then
+/// left, none to three, go one each to the quarters with the largest remainders, the earlier quarter first on a tie. So
+/// the quarters add up to the total. The numbers are whole, in any unit. The rule of rounding is this product's own.
 pub fn share_out(parts: &[i128; 4], den: i128, total: i128, out: &mut [i128; 4])
     requires positive { pos 0 <ℤ den }
     requires divisor { den ≤ℤ pos (10 ^ 37) }
@@ -101,7 +103,8 @@ pub fn share_four(
     out
 }
 
-/// Law: the function of ranks, which `share_out` computes, gives a share-out for any four parts that add up to a positive divisor times the total.
+/// Law: the function of ranks, which `share_out` computes, gives a share-out for any four parts that add up to a
+/// positive divisor times the total.
 pub fn ranks_share_out()
     ensures law { RanksShareOut }
 {}
@@ -110,33 +113,3 @@ pub fn ranks_share_out()
 pub fn only_share_out()
     ensures law { IsOnlyShareOut }
 {}
-
-#[cfg(test)]
-mod tests {
-    use super::*;
-
-    /// The share-out of four parts, a divisor and a total, in an array of its own.
-    fn shared(parts: &[i128; 4], den: i128, total: i128) -> [i128; 4]
-        requires positive { pos 0 <ℤ den }
-        requires divisor { den ≤ℤ pos (10 ^ 37) }
-        requires sizes { All (λ part. unsigned_abs part ≤ 10 ^ 37) parts.now }
-        requires adds_up { sum_of parts.now ≡ den *ℤ total }
-    {
-        let mut out = [0; 4];
-        share_out(parts, den, total, &mut out);
-        out
-    }
-
-    #[test]
-    fn shares_follow_the_table(rt: HostRuntime) {
-        assert_eq!(rt; shared(&[10, 10, 10, 10], 4, 10), [3, 3, 2, 2]);
-        assert_eq!(rt; shared(&[-10, -10, -10, -10], 4, -10), [-2, -2, -3, -3]);
-        assert_eq!(rt;
-            shared(&[100_000, 100_000, 100_000, 100_000], 400, 1000),
-            [250, 250, 250, 250]
-        );
-        assert_eq!(rt; shared(&[1, 2, 3, 4], 10, 1), [0, 0, 0, 1]);
-        assert_eq!(rt; shared(&[7, -5, 0, 1], 3, 1), [3, -2, 0, 0]);
-        assert_eq!(rt; shared(&[0, 0, 0, 0], 1, 0), [0, 0, 0, 0]);
-    }
-}

@@ -4,6 +4,3 @@
 mod board;
 
 pub use board::Board;
-
-#[cfg(test)]
-mod tests;

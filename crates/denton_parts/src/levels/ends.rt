@@ -19,7 +19,8 @@ pub struct Ends {
     pub last: i128,
 }
 
-/// The ratios with which a year begins and ends, between the multipliers `left` before and `right` after it, by one division for both.
+/// The ratios with which a year begins and ends, between the multipliers `left` before and `right` after it, by one
+/// division for both. Each is within 7 * 10^15.
 pub fn ends_of(part: &YearPart, scale: u8, left: i128, right: i128) -> Ends
     requires left { IsMultiplier left }
     requires right { IsMultiplier right }
@@ -27,8 +28,8 @@ pub fn ends_of(part: &YearPart, scale: u8, left: i128, right: i128) -> Ends
     requires fits { 10 ^ scale * unsigned_abs part.now.bench ≤ 10 ^ 13 * year_sum part.now.ind }
     ensures first { result.first ≡ floor_of (level_of part.now.ind part.now.bench scale left right 0) (pos (year_sum part.now.ind)) }
     ensures last { result.last ≡ floor_of (level_of part.now.ind part.now.bench scale left right 3) (pos (year_sum part.now.ind)) }
-    ensures first_size { unsigned_abs result.first ≤ 10 ^ 25 }
-    ensures last_size { unsigned_abs result.last ≤ 2 * 10 ^ 25 }
+    ensures first_size { unsigned_abs result.first ≤ 7 * 10 ^ 15 }
+    ensures last_size { unsigned_abs result.last ≤ 7 * 10 ^ 15 }
 {
     let rises = rises_of(part, left, right);
     let base = scaled_benchmark(scale, part.bench);

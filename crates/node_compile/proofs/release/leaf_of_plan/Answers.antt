@@ -1,4 +1,4 @@
-use Rattle.std.proofs.Common.{◌≡◌, ◌∙◌, ◌+◌, ◌-◌, ◌*◌, ◌^◌, ◌≤◌, arith, ap, sym, subst, ℕ, length}
+use Rattle.std.proofs.Common.{◌≡◌, ◌∙◌, ◌+◌, ◌-◌, ◌*◌, ◌^◌, ◌≤◌, inl, refl, arith, ap, sym, subst, ℕ, length}
 use Rattle.series_tables.specs.Cells.{cell}
 use Rattle.series_tables.specs.Tree.{leaves_under}
 use Rattle.node_compile.specs.Items.{IsKnownItem}
@@ -36,4 +36,5 @@ returns-clause-known g c =
 pub returns-clause-steps : goal.returns-clause-steps
 returns-clause-steps g c =
     let joints = input_joints (cell c.args.tables.now) c.args.plan.now c.args.item c.in_ok-input.input.ind.items c.in_ok-input.input.price.items c.in_ok-input.input.bench.items c.requires.leaf c.in_ok-input.ensures in
-    subst (λ (n : ℕ). c.compile_leaf.new.steps ≤ c.args.steps.now + 192 * n) joints c.compile_leaf.ensures.steps
+    subst (λ (n : ℕ). c.compile_leaf.new.steps ≤ c.args.steps.now + 192 * n) joints
+    (c.compile_leaf.ensures.steps 192 (inl refl))

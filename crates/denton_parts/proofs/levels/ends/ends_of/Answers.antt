@@ -4,7 +4,9 @@ use Rattle.std.proofs.lemmas.Int.{to_z-of_z}
 use Rattle.ratio_arith.specs.Division.{floor_of}
 use Rattle.denton_parts.specs.Level.{rises}
 use Rattle.denton_parts.proofs.EndRatios.{ratio_is, first_ratio_is}
+use Rattle.denton_parts.specs.Years.{year_in}
 use Rattle.denton_parts.proofs.Machine.{machine}
+use Rattle.denton_parts.proofs.Reach.{ratio_within}
 use Rattle.denton_parts.proofs.levels.ends.ends_of.Goals as goal
 
 -- what the calls answered, without casts
@@ -43,3 +45,15 @@ pub returns-clause-last : goal.returns-clause-last
 returns-clause-last c =
     let known = parts c in
     known.last ∙ ratio_is c.args.part.now.ind c.args.part.now.bench c.args.scale c.args.left c.args.right 3 c.args.part.now.sum c.scaled_benchmark-base.result c.weighed_sum-weighed.result c.rises_of-rises.result known.found c.args.part.now.total known.base known.weighed known.positive
+
+pub returns-clause-first_size : goal.returns-clause-first_size
+returns-clause-first_size c =
+    rw (returns-clause-first c)
+    (ratio_within c.args.scale (year_in 0 c.args.part.now) c.args.left c.args.right 0 c.args.part.now.indicators
+    c.requires.left c.requires.right c.requires.fits)
+
+pub returns-clause-last_size : goal.returns-clause-last_size
+returns-clause-last_size c =
+    rw (returns-clause-last c)
+    (ratio_within c.args.scale (year_in 0 c.args.part.now) c.args.left c.args.right 3 c.args.part.now.indicators
+    c.requires.left c.requires.right c.requires.fits)
