@@ -1,3 +1,4 @@
+pub mod Distances
 pub mod EndRatios
 pub mod LevelSum
 pub mod Machine

@@ -1,10 +1,11 @@
 -- The definitions computed on worked examples: years with the indicator 100 and the benchmarks 1000 and 1400.
-use Rattle.std.specs.Prelude.{◌≡◌, ℕ, ℤ, pos, ◌*ℤ◌, List, [], ◌∷◌, take, drop}
+use Rattle.std.specs.Prelude.{◌≡◌, ℕ, ◌+◌, ◌*◌, ◌^◌, ℤ, pos, ◌*ℤ◌, List, [], ◌∷◌, take, drop}
 use Rattle.std.proofs.Common.{refl, arith}
 use Rattle.std.proofs.lemmas.List.Elements.{All-nil, All-cons}
 use Rattle.denton_parts.specs.Benchmarks.{MeetsBenchmarks, AddsUpTo}
 use Rattle.denton_parts.specs.Changes.{Fraction, changes, steady, no_change}
 use Rattle.denton_parts.specs.Gap.{distance_of, gap_by}
+use Rattle.denton_parts.specs.Limit.{limit_of}
 use Rattle.denton_parts.specs.Year.{BenchmarkedYear}
 
 indicators : List ℕ
@@ -97,3 +98,18 @@ gap_of_annual_ratios : gap_by scale indicators (pos 250 ∷ pos 250 ∷ pos 250 
     ∷ pos 350 ∷ []) (changes years (pos 0 ∷ []) indicators) ≡ pos 1000000000000000000000000
 unfolding scale indicators
 gap_of_annual_ratios = refl
+
+-- a year with the indicator 1 in each quarter and the benchmark 10: its gap, and the limit for it
+abbrev ones : List ℕ
+ones = 1 ∷ 1 ∷ 1 ∷ 1 ∷ []
+
+abbrev year_of_ones : List BenchmarkedYear
+year_of_ones = record { place = 0; indicators = ones; benchmark = pos 10 } ∷ []
+
+gap_of_ones : gap_by scale ones (pos 3 ∷ pos 3 ∷ pos 2 ∷ pos 2 ∷ []) (changes year_of_ones [] ones) ≡ pos (10 ^ 24)
+unfolding scale
+gap_of_ones = refl
+
+limit_of_ones : limit_of scale ones ≡ pos (3 * (2 * 10 ^ 12 + 1024) ^ 2)
+unfolding scale
+limit_of_ones = refl

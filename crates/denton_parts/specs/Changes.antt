@@ -1,6 +1,7 @@
 -- The ratio changes that multipliers fix: those that satisfy the dual conditions of proportional benchmarking (IMF
 -- Quarterly National Accounts Manual 2017, chapter 6).
-use Rattle.std.specs.Prelude.{ℕ, suc, ◌==◌, ℤ, pos, ◌+ℤ◌, ◌-ℤ◌, ◌*ℤ◌, List, [], ◌∷◌, ◌++◌, map, slice_index, if◌then◌else◌}
+use Rattle.std.specs.Prelude.{ℕ, suc, ◌==◌, ℤ, pos, ◌+ℤ◌, ◌-ℤ◌, ◌*ℤ◌, List, [], ◌∷◌, ◌++◌, map, slice_index}
+use Rattle.std.specs.Prelude.{if◌then◌else◌}
 use Rattle.denton_parts.specs.Year.{BenchmarkedYear, year_sum, sums_before}
 
 -- a fraction that is never rounded: each use takes its floor or its ceiling

@@ -2,6 +2,7 @@ pub mod Benchmarks
 pub mod Changes
 pub mod Gap
 pub mod Level
+pub mod Limit
 pub mod Ratios
 pub mod Scale
 pub mod Year

@@ -10,7 +10,8 @@ square a = a *ℤ a
 -- `whole` is a common multiple of the indicators: in each quarter it is the indicator times the quarter's factor
 abbrev pub AreFactors : ℤ → List ℕ → List ℤ → Type 0
 AreFactors whole [] [] = Unit {0}
-AreFactors whole (indicator ∷ indicators) (factor ∷ factors) = (factor *ℤ pos indicator ≡ whole) × AreFactors whole indicators factors
+AreFactors whole (indicator ∷ indicators) (factor ∷ factors) =
+    (factor *ℤ pos indicator ≡ whole) × AreFactors whole indicators factors
 AreFactors whole _ _ = ⊥
 
 -- the quarters' ratios to their indicators, all times the common multiple

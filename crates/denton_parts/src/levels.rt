@@ -1,6 +1,7 @@
 //! The scaled levels of a year's ratio.
 
-ghost use Rattle.std.specs.Prelude.{◌≡◌, ◌≤◌, ◌<◌, ◌+◌, ◌*◌, ◌^◌, pos, ◌+ℤ◌, ◌-ℤ◌, ◌*ℤ◌, ◌≤ℤ◌, ◌<ℤ◌, length, slice_index, slice_index_or, unsigned_abs};
+ghost use Rattle.std.specs.Prelude.{◌≡◌, ◌≤◌, ◌<◌, ◌+◌, ◌*◌, ◌^◌, pos, ◌+ℤ◌, ◌-ℤ◌, ◌*ℤ◌, ◌≤ℤ◌, ◌<ℤ◌, length};
+ghost use Rattle.std.specs.Prelude.{slice_index, slice_index_or, unsigned_abs};
 ghost use Rattle.denton_parts.specs.Level.{level_of, rises, weighed_rises, LevelsAddUp};
 ghost use Rattle.denton_parts.specs.Year.{IsIndicator, IsMultiplier, year_sum};
 
@@ -10,8 +11,9 @@ use crate::change_floor;
 use crate::year::YearPart;
 pub use ends::{Ends, ends_of};
 
-/// The level of quarter `j` of the year, from 0 to 3, between the multipliers `left` before and `right` after the year: the quarter's benchmark-to-indicator
-/// ratio, times 10^scale and the year's indicator sum. The four indicators times their levels add up to 10^scale times the sum and the benchmark.
+/// The level of quarter `j` of the year, from 0 to 3, between the multipliers `left` before and `right` after the year:
+/// the quarter's benchmark-to-indicator ratio, times 10^scale and the year's indicator sum. The four indicators times
+/// their levels add up to 10^scale times the sum and the benchmark.
 pub fn level(part: &YearPart, scale: u8, left: i128, right: i128, j: usize) -> i128
     requires quarter { j < 4 }
     requires left { IsMultiplier left }
@@ -35,12 +37,14 @@ pub fn level(part: &YearPart, scale: u8, left: i128, right: i128, j: usize) -> i
     raised(base, weighed, part.sum, rises[j])
 }
 
-/// Law: whatever the multipliers are, the four indicators of a year times their levels add up to 10^scale times the sum of the indicators times the benchmark.
+/// Law: whatever the multipliers are, the four indicators of a year times their levels add up to 10^scale times the sum
+/// of the indicators times the benchmark.
 pub fn levels_add_up()
     ensures law { LevelsAddUp }
 {}
 
-/// What the levels of the year are counted in: 10^scale times the year's indicator sum. A level over it is the quarter's benchmark-to-indicator ratio.
+/// What the levels of the year are counted in: 10^scale times the year's indicator sum. A level over it is the
+/// quarter's benchmark-to-indicator ratio.
 pub fn level_unit(part: &YearPart, scale: u8) -> i128
     requires scale { scale ≤ 15 }
     ensures value { result ≡ pos (10 ^ scale) *ℤ pos (year_sum part.now.ind) }

@@ -1,5 +1,5 @@
-//! The parts of proportional benchmarking that belong to one year: its indicators and their sums, and the ratio changes that multipliers fix
-//! (IMF Quarterly National Accounts Manual 2017, chapter 6).
+//! The parts of proportional benchmarking that belong to one year: its indicators and their sums, and the ratio changes
+//! that multipliers fix (IMF Quarterly National Accounts Manual 2017, chapter 6).
 #![tactic(auto)]
 
 mod levels;
@@ -20,13 +20,14 @@ pub use run::{first_quarter, part_at};
 pub use scale::scale_of;
 pub use year::YearPart;
 
-/// The floor of the ratio change into quarter `j` of the year, from 0 to 3, between the multipliers `left` before and `right` after the year.
-/// Multipliers and changes are in units of 1 over the scale.
+/// The floor of the ratio change into quarter `j` of the year, from 0 to 3, between the multipliers `left` before and
+/// `right` after the year. Multipliers and changes are in units of 1 over the scale.
 pub fn change_floor(part: &YearPart, left: i128, right: i128, j: usize) -> i128
     requires quarter { j < 4 }
     requires left { IsMultiplier left }
     requires right { IsMultiplier right }
-    ensures value { let change = change_in_year part.now.ind left right j in result ≡ floor_of change.numerator change.denominator }
+    ensures value { let change = change_in_year part.now.ind left right j in
+        result ≡ floor_of change.numerator change.denominator }
     ensures size { unsigned_abs result ≤ 10 ^ 15 }
 {
     floor_div(change_numerator(part, left, right, j), part.sum)
@@ -37,7 +38,8 @@ pub fn change_ceil(part: &YearPart, left: i128, right: i128, j: usize) -> i128
     requires quarter { j < 4 }
     requires left { IsMultiplier left }
     requires right { IsMultiplier right }
-    ensures value { let change = change_in_year part.now.ind left right j in result ≡ ceil_of change.numerator change.denominator }
+    ensures value { let change = change_in_year part.now.ind left right j in
+        result ≡ ceil_of change.numerator change.denominator }
     ensures size { unsigned_abs result ≤ 10 ^ 15 }
 {
     ceil_div(change_numerator(part, left, right, j), part.sum)
@@ -48,8 +50,10 @@ pub fn change_bounds(part: &YearPart, left: i128, right: i128, j: usize) -> Quot
     requires quarter { j < 4 }
     requires left { IsMultiplier left }
     requires right { IsMultiplier right }
-    ensures floor { let change = change_in_year part.now.ind left right j in result.floor ≡ floor_of change.numerator change.denominator }
-    ensures ceiling { let change = change_in_year part.now.ind left right j in result.ceiling ≡ ceil_of change.numerator change.denominator }
+    ensures floor { let change = change_in_year part.now.ind left right j in
+        result.floor ≡ floor_of change.numerator change.denominator }
+    ensures ceiling { let change = change_in_year part.now.ind left right j in
+        result.ceiling ≡ ceil_of change.numerator change.denominator }
     ensures floor_size { unsigned_abs result.floor ≤ 10 ^ 15 }
     ensures ceiling_size { unsigned_abs result.ceiling ≤ 10 ^ 15 }
 {

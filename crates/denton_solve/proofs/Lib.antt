@@ -1,10 +1,14 @@
 pub mod Benchmarks
 pub mod Joints
+pub mod Nearing
 pub mod Pairs
 pub mod Rows
 pub mod Scaled
+pub mod Settling
 pub mod Shares
+pub mod Steepness
 pub mod Steps
 pub mod Values
 pub mod Weights
 pub mod Worked
+pub mod YearRatios

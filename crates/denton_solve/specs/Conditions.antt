@@ -1,5 +1,6 @@
 -- What the solver's functions ask of years, multipliers and weights.
-use Rattle.std.specs.Prelude.{◌≡◌, ℕ, ◌+◌, ◌*◌, ◌^◌, ◌≤◌, ◌<◌, ℤ, pos, ◌≤ℤ◌, List, length, slice_index_or, unsigned_abs, EachIndex}
+use Rattle.std.specs.Prelude.{◌≡◌, ℕ, ◌+◌, ◌*◌, ◌^◌, ◌≤◌, ◌<◌, ℤ, pos, ◌≤ℤ◌, List, length, slice_index_or, unsigned_abs}
+use Rattle.std.specs.Prelude.{EachIndex}
 use Rattle.std.specs.List.{All}
 use Rattle.denton_parts.specs.Year.{BenchmarkedYear, IsMultiplier, year_sum}
 use Rattle.denton_solve.specs.Sweeps.{weight_of}

@@ -1,3 +1,4 @@
 pub mod Conditions
 pub mod Series
+pub mod Settling
 pub mod Sweeps

@@ -1,6 +1,7 @@
 -- The multipliers: what a sweep over the joints between benchmarked years makes of them (this product's own way to the
 -- proportional solution of the IMF Quarterly National Accounts Manual 2017, chapter 6).
-use Rattle.std.specs.Prelude.{◌≡◌, ◌⊎◌, ℕ, zero, suc, ◌+◌, ◌*◌, ◌^◌, ◌≤◌, ℤ, pos, ◌+ℤ◌, ◌-ℤ◌, ◌*ℤ◌, neg_ℤ, ◌-◌, List, [], ◌∷◌, length, replicate, slice_index}
+use Rattle.std.specs.Prelude.{◌≡◌, ◌⊎◌, ℕ, zero, suc, ◌+◌, ◌*◌, ◌^◌, ◌≤◌, ℤ, pos, ◌+ℤ◌, ◌-ℤ◌, ◌*ℤ◌, neg_ℤ, ◌-◌, List}
+use Rattle.std.specs.Prelude.{[], ◌∷◌, length, replicate, slice_index}
 use Rattle.std.specs.Int.{int_min, int_max}
 use Rattle.ratio_arith.specs.Division.{floor_of, ceil_of}
 use Rattle.denton_parts.specs.Level.{ratio_floor}

@@ -1,11 +1,13 @@
 //! One joint between two benchmarked years: its width, its weight, and how its multiplier moves.
 
-ghost use Rattle.std.specs.Prelude.{◌≡◌, ◌≤◌, ◌<◌, ◌+◌, ◌*◌, ◌^◌, pos, ◌+ℤ◌, ◌-ℤ◌, ◌*ℤ◌, ◌≤ℤ◌, neg_ℤ, length, unsigned_abs, slice_index};
+ghost use Rattle.std.specs.Prelude.{◌≡◌, ◌≤◌, ◌<◌, ◌+◌, ◌*◌, ◌^◌, pos, ◌+ℤ◌, ◌-ℤ◌, ◌*ℤ◌, ◌≤ℤ◌, neg_ℤ, length};
+ghost use Rattle.std.specs.Prelude.{unsigned_abs, slice_index};
 ghost use Rattle.ratio_arith.specs.Division.{floor_of};
 ghost use Rattle.denton_parts.specs.Year.{IsMultiplier, year_sum};
 ghost use Rattle.denton_parts.specs.Years.{year_in, years_apart};
 ghost use Rattle.denton_solve.specs.Conditions.{AreFew, AreWeights};
-ghost use Rattle.denton_solve.specs.Sweeps.{thousandths, before_quarter, from_quarter, weight_behind, weight_ahead, cut_of};
+ghost use Rattle.denton_solve.specs.Sweeps.{thousandths, before_quarter, from_quarter, weight_behind, weight_ahead};
+ghost use Rattle.denton_solve.specs.Sweeps.{cut_of};
 
 use denton_parts::YearPart;
 use ratio_arith::{ceil_div, floor_div};

@@ -10,6 +10,7 @@ ghost use Rattle.std.specs.Prelude.{◌≡◌, ◌≤◌, ◌+◌, ◌*◌, ◌-
 ghost use Rattle.denton_parts.specs.Scale.{scale_of_years};
 ghost use Rattle.denton_parts.specs.Years.{Wherever, years_apart};
 ghost use Rattle.denton_solve.specs.Conditions.{AreFew, AreMultipliers};
+ghost use Rattle.denton_solve.specs.Settling.{AreSettled, SweepsComeNear};
 ghost use Rattle.denton_solve.specs.Sweeps.{multipliers_of, IsEnough};
 
 use denton_parts::YearPart;
@@ -42,6 +43,8 @@ pub fn solve<L: Ledger>(
     ensures multipliers { (first : ℕ) →
         u.new ≡ multipliers_of scale (years_apart first miss.now parts.now) }
     ensures sizes { AreMultipliers u.new }
+    ensures residuals { (first : ℕ) →
+        AreSettled scale (years_apart first miss.now parts.now) u.new }
     ensures steps { (first sweeps : ℕ) →
         IsEnough scale (years_apart first miss.now parts.now) sweeps →
         steps.new ≤ steps.old + sweeps * (length parts.now - 1) }

@@ -1,6 +1,7 @@
 //! The benchmarked series: each year's benchmark shared out over its quarters.
 
-ghost use Rattle.std.specs.Prelude.{◌≡◌, ◌≤◌, ◌<◌, ◌+◌, ◌*◌, ◌^◌, ℕ, pos, ◌*ℤ◌, ◌≤ℤ◌, ◌<ℤ◌, length, take, drop, ◌++◌, slice_index, slice_index_or, unsigned_abs, EachIndex};
+ghost use Rattle.std.specs.Prelude.{◌≡◌, ◌≤◌, ◌<◌, ◌+◌, ◌*◌, ◌^◌, ℕ, pos, ◌*ℤ◌, ◌≤ℤ◌, ◌<ℤ◌, length, take, drop, ◌++◌};
+ghost use Rattle.std.specs.Prelude.{slice_index, slice_index_or, unsigned_abs, EachIndex};
 ghost use Rattle.denton_parts.specs.Benchmarks.{AddsUpTo};
 ghost use Rattle.denton_parts.specs.Scale.{scale_of_years};
 ghost use Rattle.denton_parts.specs.Year.{IsMultiplier};

@@ -1,6 +1,7 @@
 //! One sweep over the joints.
 
-ghost use Rattle.std.specs.Prelude.{◌≡◌, ◌⊎◌, ◌↔◌, ◌≤◌, ◌<◌, ◌+◌, ◌*◌, ◌^◌, pos, ◌≤ℤ◌, length, drop, slice_index_or, unsigned_abs, IsTrue};
+ghost use Rattle.std.specs.Prelude.{◌≡◌, ◌⊎◌, ◌↔◌, ◌≤◌, ◌<◌, ◌+◌, ◌*◌, ◌^◌, pos, ◌≤ℤ◌, length, drop, slice_index_or};
+ghost use Rattle.std.specs.Prelude.{unsigned_abs, IsTrue};
 ghost use Rattle.denton_parts.specs.Level.{ratio_floor};
 ghost use Rattle.denton_parts.specs.declared.year.YearPart.{YearPart};
 ghost use Rattle.denton_parts.specs.Year.{IsMultiplier};

@@ -1,5 +1,6 @@
 -- What a certificate's document keeps: the shape of its lists and the ranges of its numbers (this product's own).
-use Rattle.std.specs.Prelude.{◌≡◌, ℕ, ◌+◌, ◌*◌, ◌/◌, ◌^◌, ◌≤◌, ℤ, pos, ◌≤ℤ◌, IsTrue, List, length, slice_index, slice_index_or, unsigned_abs, EachIndex}
+use Rattle.std.specs.Prelude.{◌≡◌, ℕ, ◌+◌, ◌*◌, ◌/◌, ◌^◌, ◌≤◌, ℤ, pos, ◌≤ℤ◌, IsTrue, List, length, slice_index}
+use Rattle.std.specs.Prelude.{slice_index_or, unsigned_abs, EachIndex}
 use Rattle.line_form.specs.Name.{is_name}
 use Rattle.denton_parts.specs.Year.{IsIndicator, IsBenchmark, IsMultiplier}
 use Rattle.denton_parts.specs.Years.{ArePlaces}
@@ -14,7 +15,8 @@ pub record AreQuarters (k : ℕ) (indicators : List ℕ) (values : List ℤ) : T
   pub most : length indicators ≤ 512
   pub same_length : length values ≡ length indicators
   pub each_indicator : EachIndex indicators (λ t. IsIndicator (slice_index indicators t))
-  pub each_value : EachIndex indicators (λ t. IsQuarterValue k (slice_index indicators t) (slice_index_or values t (pos 0)))
+  pub each_value : EachIndex indicators (λ t.
+      IsQuarterValue k (slice_index indicators t) (slice_index_or values t (pos 0)))
 
 -- each multiplier is in range
 abbrev pub AreMultipliers : List ℤ → Type 0

@@ -1,5 +1,6 @@
 -- Years as parts of a run of quarters.
-use Rattle.std.specs.Prelude.{◌≡◌, ℕ, ◌+◌, ◌-◌, ◌*◌, ◌≤◌, ◌<◌, nat_lt, ℤ, pos, List, [], ◌∷◌, ◌++◌, length, slice_index, unsigned_abs, if◌then◌else◌}
+use Rattle.std.specs.Prelude.{◌≡◌, ℕ, ◌+◌, ◌-◌, ◌*◌, ◌≤◌, ◌<◌, nat_lt, ℤ, pos, List, [], ◌∷◌, ◌++◌, length, slice_index}
+use Rattle.std.specs.Prelude.{unsigned_abs, if◌then◌else◌}
 use Rattle.ratio_arith.specs.Division.{floor_of, ceil_of}
 use Rattle.denton_parts.specs.Changes.{Fraction, steady, change_in_year}
 use Rattle.denton_parts.specs.Year.{BenchmarkedYear}

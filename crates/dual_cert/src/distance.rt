@@ -6,7 +6,8 @@ ghost use Rattle.std.specs.Prelude.{◌≡◌, ◌≤◌, ◌*◌, ◌^◌, max,
 pub(crate) fn greater_square(low: i128, high: i128) -> i128
     requires low { unsigned_abs low ≤ 3 * 10 ^ 16 }
     requires high { unsigned_abs high ≤ 3 * 10 ^ 16 }
-    ensures value { let distance = max (unsigned_abs low) (unsigned_abs high) in result ≡ pos (distance * distance) }
+    ensures value { let distance = max (unsigned_abs low) (unsigned_abs high) in
+        result ≡ pos (distance * distance) }
     ensures size { result ≤ℤ pos (10 ^ 33) }
 {
     let distance = low.unsigned_abs().max(high.unsigned_abs());

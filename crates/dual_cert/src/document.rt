@@ -2,7 +2,8 @@
 
 ghost use Rattle.dual_cert.specs.Document.{IsDocument};
 
-/// A certificate as it was read: its lists have the shape of a certificate and its numbers are in range. Nothing says yet that it is true.
+/// A certificate as it was read: its lists have the shape of a certificate and its numbers are in range. Nothing says
+/// yet that it is true.
 #[derive(Debug, Drop)]
 pub struct CertDoc {
     /// the leaf's name: 1 to 32 letters, digits, `_`, `.` or `-`

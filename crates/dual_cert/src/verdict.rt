@@ -1,6 +1,7 @@
 //! The verdict on a certificate.
 
-ghost use Rattle.std.specs.Prelude.{◌≡◌, ◌≢◌, ◌↔◌, ◌≤◌, ◌<◌, ◌+◌, ◌*◌, ◌^◌, ℕ, ℤ, List, pos, ◌+ℤ◌, unsigned_abs, slice_index, length, slice_index_or, IfOk, MatchOption, EachIndex};
+ghost use Rattle.std.specs.Prelude.{◌≡◌, ◌≢◌, ◌↔◌, ◌≤◌, ◌<◌, ◌+◌, ◌*◌, ◌^◌, ℕ, ℤ, List, pos, ◌+ℤ◌, unsigned_abs};
+ghost use Rattle.std.specs.Prelude.{slice_index, length, slice_index_or, IfOk, MatchOption, EachIndex};
 ghost use Rattle.denton_parts.specs.Benchmarks.{MeetsBenchmarks, year_total};
 ghost use Rattle.denton_parts.specs.Year.{IsIndicator, IsBenchmark};
 ghost use Rattle.denton_parts.specs.Years.{ArePlaces, years_at, years_in};
@@ -16,7 +17,8 @@ use std::alloc::Global;
 /// What a check of a certificate finds.
 #[derive(Clone, Copy, Debug, PartialEq, Eq)]
 pub enum Verdict {
-    /// The series meets its benchmarks and the gap is the gap of its numbers: so no series that meets them is better by more than the gap.
+    /// The series meets its benchmarks and the gap is the gap of its numbers: so no series that meets them is better by
+    /// more than the gap.
     Yes,
     /// The quarters of this calendar year, the first such, don't add up to its benchmark.
     Sum(u16),
@@ -29,8 +31,9 @@ pub enum Verdict {
     },
 }
 
-/// Checks a certificate on its own numbers alone. Where the answer is `Yes`, no series of fractions that meets the certificate's benchmarks has a
-/// sum of squared ratio changes smaller than that of its series by more than its gap over 10^(2 * scale), whatever multipliers it carries.
+/// Checks a certificate on its own numbers alone. Where the answer is `Yes`, no series of fractions that meets the
+/// certificate's benchmarks has a sum of squared ratio changes smaller than that of its series by more than its gap
+/// over 10^(2 * scale), whatever multipliers it carries.
 pub fn check(alloc: Global, doc: &CertDoc) -> Result<Verdict, Memory>
     ensures sum { IfOk result (λ verdict. (year : ℕ) →
         (verdict ≡ Verdict.Sum year) ↔ IsFirstMissedYear doc.now year) }

@@ -1,4 +1,4 @@
--- The values outside the benchmarked years: how far they reach, and the loop that writes them.
+-- The values outside the benchmarked years: how far they reach, and that they are written.
 use Rattle.std.specs.Prelude.{◌≡◌, ℕ, ◌+◌, ◌*◌, ◌^◌, ◌≤◌, ◌<◌, ℤ, pos, ◌*ℤ◌, List, [], ◌∷◌, ◌++◌, map, length, take, drop, slice_index, unsigned_abs, EachIndex}
 use Rattle.std.proofs.Common.{◌∙◌, ap, arith, zero, suc, get_or, set, drop-cons}
 use Rattle.std.proofs.Math.Numerals.{add-one}
@@ -55,18 +55,6 @@ unfolding carried_back_of
 carried_back_within k first right out indicators e small fits are after each t inside =
     rw e (map_within k (carried_back k first right) (λ i some. at_quarter_within k first (pos 0) right 0 i small fits
     are (omega arith) after some) indicators each t (rw e at inside))
-
--- one more value is written
-pub filled_more : (f : ℕ → ℤ) (xs : List ℕ) (out whole : List ℤ) (t : ℕ) (value : ℤ) → t < length xs → t < length out →
-    value ≡ f (get_or xs t 0) → take t out ++ map f (drop t xs) ≡ whole →
-    take (t + 1) (set out t value) ++ map f (drop (t + 1) xs) ≡ whole
-filled_more f xs out whole t value inside room e_value e =
-    rw (take_more_set out t value room, append_assoc, add-one, e_value) (rw (drop-cons xs t 0 inside) at e)
-
--- all values are written
-pub filled_all : (f : ℕ → ℤ) (xs : List ℕ) (out : List ℤ) (t : ℕ) → length xs ≤ t → length out ≤ t →
-    take t out ++ map f (drop t xs) ≡ map f xs → out ≡ map f xs
-filled_all f xs out t done room e = rw (take_all t out room, drop_all t xs done, append-nil) at e
 
 -- values at a level over its unit are those of the definition
 pub carried_is : (k : ℕ) (last : BenchmarkedYear) (left level unit : ℤ) (indicators : List ℕ) (out : List ℤ) →

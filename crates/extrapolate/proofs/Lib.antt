@@ -1,3 +1,4 @@
 pub mod Carrying
+pub mod Outside
 pub mod Stepped
 pub mod Worked

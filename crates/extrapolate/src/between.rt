@@ -1,6 +1,7 @@
 //! The quarters between two benchmarked years.
 
-ghost use Rattle.std.specs.Prelude.{◌≡◌, ◌≤◌, ◌<◌, ◌*◌, ◌^◌, ℕ, pos, ◌*ℤ◌, ◌≤ℤ◌, length, slice_index, slice_index_or, unsigned_abs, EachIndex};
+ghost use Rattle.std.specs.Prelude.{◌≡◌, ◌≤◌, ◌<◌, ◌*◌, ◌^◌, ℕ, pos, ◌*ℤ◌, ◌≤ℤ◌, length, slice_index, slice_index_or};
+ghost use Rattle.std.specs.Prelude.{unsigned_abs, EachIndex};
 ghost use Rattle.ratio_arith.specs.Division.{round_of};
 ghost use Rattle.denton_parts.specs.Year.{IsIndicator, IsMultiplier, year_sum};
 ghost use Rattle.denton_parts.specs.Years.{IsInReach, year_in};

@@ -5,7 +5,8 @@
 
 mod between;
 
-ghost use Rattle.std.specs.Prelude.{◌≡◌, ◌≤◌, ◌<◌, ◌*◌, ◌^◌, ℕ, pos, ◌*ℤ◌, ◌≤ℤ◌, ◌<ℤ◌, length, map, slice_index, slice_index_or, unsigned_abs, EachIndex};
+ghost use Rattle.std.specs.Prelude.{◌≡◌, ◌≤◌, ◌<◌, ◌*◌, ◌^◌, ℕ, pos, ◌*ℤ◌, ◌≤ℤ◌, ◌<ℤ◌, length, map, slice_index};
+ghost use Rattle.std.specs.Prelude.{slice_index_or, unsigned_abs, EachIndex};
 ghost use Rattle.ratio_arith.specs.Division.{round_of};
 ghost use Rattle.denton_parts.specs.Year.{IsIndicator, IsMultiplier, year_sum};
 ghost use Rattle.denton_parts.specs.Years.{IsInReach, year_in};

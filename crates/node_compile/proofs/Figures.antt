@@ -44,7 +44,7 @@ use Rattle.node_compile.proofs.Behind.{Reach, values_count, values_reach}
 use Rattle.node_compile.proofs.Sizes.{values_sized, volumes_sized, missing_sized, wider}
 use Rattle.node_compile.proofs.Tree.{cell_sized, leaf_of_itself, sized_everywhere}
 use Rattle.node_compile.proofs.Values.{values_below}
-use Rattle.node_compile.proofs.Worth.{IsRun, leaf_is_run, years_range, years_from, leaf_worth}
+use Rattle.node_compile.proofs.Worth.{IsRun, IsWorth, leaf_is_run, years_range, years_from, leaf_worth}
 
 -- ---- the values of a run
 
@@ -175,7 +175,7 @@ record IsKnownLeaf (table : Table) : Type 0 where
   pub as_few : length table.prev ≤ 256
   pub below : All (IsSizedCell (10 ^ 24 - 1)) table.value
   pub within : All (IsSizedCell (10 ^ 15)) table.prev
-  pub worth : MeetsItsBenchmarks table × IsWithinItsGap table
+  pub worth : IsWorth table
 
 leaf_known : (value_at : Kind → ℕ → ℕ → Option ℤ) (reference leaf : ℕ) → AreInRange value_at → IsKnownLeaf (table_of_leaf value_at reference leaf)
 unfolding leaf_table
@@ -282,12 +282,14 @@ item_known value_at plan item range inside = by_leaf (is_leaf plan item) refl
           prev = leaf_volume_cells value_at plan.reference item range;
           meets = worth.0;
           within = worth.1;
+          limit = worth.2;
         })
     by_leaf false inner = record {
       value = added_cells (10 ^ 24) (λ leaf. (table_of_leaf value_at plan.reference leaf).value) (λ leaf. leaf_value_cells value_at plan.reference leaf range) (leaves_under plan item);
       prev = added_cells (10 ^ 15) (λ leaf. (table_of_leaf value_at plan.reference leaf).prev) (λ leaf. leaf_volume_cells value_at plan.reference leaf range) (leaves_under plan item);
       meets = tt;
       within = tt;
+      limit = tt;
     }
 
 -- the values of a leaf are below 10^24

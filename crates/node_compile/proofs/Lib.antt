@@ -3,6 +3,7 @@ pub mod Figures
 pub mod Filling
 pub mod Items
 pub mod Leaves
+pub mod Limits
 pub mod Links
 pub mod Outcomes
 pub mod Places

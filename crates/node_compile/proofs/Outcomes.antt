@@ -12,11 +12,14 @@ pub none_there : {X : Type 0} (xs : List X) → length xs ≡ 0 → xs ≡ []
 none_there [] e = refl
 none_there (x ∷ xs) e = absurd (omega arith)
 
--- what follows of two facts of a result, and of five
-pub ok_both : {T E : Type 0} (result : Result T E) (P Q R : T → Type 0) → ((x : T) → P x → Q x → R x) → IfOk result P → IfOk result Q → IfOk result R
+-- what follows of two facts of a result, and of six
+pub ok_both : {T E : Type 0} (result : Result T E) (P Q R : T → Type 0) → ((x : T) → P x → Q x → R x) →
+    IfOk result P → IfOk result Q → IfOk result R
 ok_both (Ok x) P Q R gives p q = gives x p q
 ok_both (Err e) P Q R gives p q = tt
 
-pub ok_five : {T E : Type 0} (result : Result T E) (O P Q R S U : T → Type 0) → ((x : T) → O x → P x → Q x → R x → S x → U x) → IfOk result O → IfOk result P → IfOk result Q → IfOk result R → IfOk result S → IfOk result U
-ok_five (Ok x) O P Q R S U gives o p q r s = gives x o p q r s
-ok_five (Err e) O P Q R S U gives o p q r s = tt
+pub ok_six : {T E : Type 0} (result : Result T E) (O P Q R S U V : T → Type 0) →
+    ((x : T) → O x → P x → Q x → R x → S x → U x → V x) →
+    IfOk result O → IfOk result P → IfOk result Q → IfOk result R → IfOk result S → IfOk result U → IfOk result V
+ok_six (Ok x) O P Q R S U V gives o p q r s u = gives x o p q r s u
+ok_six (Err e) O P Q R S U V gives o p q r s u = tt

@@ -1,9 +1,11 @@
--- Why a leaf's values meet the benchmarks and are within the gap of its table.
+-- Why a leaf's values meet the benchmarks and are within the gap of its table, and that within its limit.
 use Rattle.std.specs.Prelude.{◌≡◌, ℕ, ◌+◌, ◌-◌, ◌*◌, ◌^◌, ◌/◌, ◌≤◌, ℤ, pos, List, [], ◌∷◌, map, length, All, Option, Some, None}
 use Rattle.std.proofs.Common.{refl, sym, ◌∙◌, ap, arith, subst}
+use Rattle.std.proofs.lemmas.List.{get_or_default}
 use Rattle.denton_parts.specs.Benchmarks.{MeetsBenchmarks}
 use Rattle.denton_parts.specs.Changes.{changes}
 use Rattle.denton_parts.specs.Gap.{gap_by}
+use Rattle.denton_parts.specs.Limit.{limit_of}
 use Rattle.denton_parts.specs.Ratios.{IsWithinGap}
 use Rattle.denton_parts.specs.Scale.{scale_of_years}
 use Rattle.denton_parts.specs.Year.{BenchmarkedYear}
@@ -11,17 +13,20 @@ use Rattle.denton_parts.specs.Years.{ArePlaces, AreYearsOf, year_at, years_at}
 use Rattle.denton_parts.proofs.Places.{AreInRange, run_in_range, years_of_run, years_at-length}
 use Rattle.denton_solve.specs.Sweeps.{multipliers_of, IsEnough}
 use Rattle.denton_solve.proofs.Pairs.{multipliers_count}
+use Rattle.denton_solve.proofs.Scaled.{scaled}
+use Rattle.denton_solve.proofs.Settling.{multipliers_settled}
 use Rattle.dual_cert.proofs.Whole.{within_gap}
 use Rattle.price_base.specs.declared.Cell.{Cell}
 use Rattle.price_base.specs.declared.Cell.TheVariants.{Value}
 use Rattle.price_base.specs.Volumes.{volumes_of}
 use Rattle.series_tables.specs.Ranges.{IsPositiveInRange, IsBenchmarkOrNone}
-use Rattle.node_compile.specs.Laws.{numbers_in, MeetsItsBenchmarks, IsWithinItsGap, IsTrulyChained}
+use Rattle.node_compile.specs.Laws.{numbers_in, MeetsItsBenchmarks, IsWithinItsGap, IsGapWithinLimit, IsTrulyChained}
 use Rattle.annual_overlap.proofs.Laws.{chain_within_drift, chain_adds_up}
 use Rattle.annual_overlap.specs.Table.{chain_of}
-use Rattle.node_compile.specs.Table.{Certificate}
+use Rattle.node_compile.specs.Table.{Certificate, Table}
 use Rattle.node_compile.specs.Leaf.{AreBenchmarks, AreEnough, benchmarked_years, joints_in, places_from, present_benchmarks, missing, missing_table, certificate_of, run_values, chained_table, table_of_years, leaf_table}
 use Rattle.node_compile.proofs.Behind.{AreFrom, AreIndicatorsOf, are_from, values_count, values_meet}
+use Rattle.node_compile.proofs.Limits.{run_limited}
 use Rattle.node_compile.proofs.Links.{chain_linked}
 use Rattle.node_compile.proofs.Places.{places_stand, present_count, present_few, present_each}
 
@@ -70,12 +75,18 @@ numbers_kept : (xs : List ℤ) → numbers_in (map Value xs) ≡ xs
 numbers_kept [] = refl
 numbers_kept (x ∷ xs) = ap (λ (rest : List ℤ). x ∷ rest) (numbers_kept xs)
 
--- a table's values meet its benchmarks and are within its gap
+-- each indicator of a run is above zero
+some_each : (indicators : List ℕ) → AreIndicatorsOf indicators → All (λ i. 1 ≤ i) indicators
+some_each indicators each t d inside =
+    subst (λ (i : ℕ). 1 ≤ i) (sym (get_or_default indicators t d 0 inside)) (each t inside).0
+
+-- a table's values meet its benchmarks and are within its gap, which is within its limit
+abbrev pub IsWorth : Table → Type 0
+IsWorth table = MeetsItsBenchmarks table × IsWithinItsGap table × IsGapWithinLimit table
+
 table_worth : (indicators : List ℕ) (prices : List (Option ℕ)) (reference : ℕ) (places : List ℕ) (benchmarks : List ℤ) →
-    IsRun indicators places benchmarks →
-    MeetsItsBenchmarks (table_of_years indicators prices reference places benchmarks)
-    × IsWithinItsGap (table_of_years indicators prices reference places benchmarks)
-table_worth indicators prices reference [] benchmarks run = (tt, tt)
+    IsRun indicators places benchmarks → IsWorth (table_of_years indicators prices reference places benchmarks)
+table_worth indicators prices reference [] benchmarks run = (tt, tt, tt)
 table_worth indicators prices reference (place ∷ places) [] run = absurd (let same = run.placed in omega arith)
 table_worth indicators prices reference (place ∷ places) (benchmark ∷ benchmarks) run =
     let year : BenchmarkedYear = year_at indicators place benchmark in
@@ -89,18 +100,21 @@ table_worth indicators prices reference (place ∷ places) (benchmark ∷ benchm
     let meets = values_meet k year later u indicators are range in
     let count = values_count k year later u indicators (are_from year later indicators are) range in
     let joints = multipliers_count k (year ∷ later) (omega arith) in
+    let settled = multipliers_settled k (year ∷ later) (λ y other inside. (range y other inside).0)
+    (scaled (year ∷ later) range) in
     let within : IsWithinGap indicators (year ∷ later) x gap (pos (10 ^ k)) =
     within_gap indicators (year ∷ later) x u (pos (10 ^ k)) (λ t inside. (run.each_indicator t inside).0) are count
     (omega arith) meets in (
       subst (λ (ns : List ℤ). MeetsBenchmarks (year ∷ later) (pos 1) ns) (sym (numbers_kept x)) meets,
       subst (λ (ns : List ℤ). IsWithinGap indicators (year ∷ later) ns gap (pos (10 ^ k))) (sym (numbers_kept x)) within,
+      run_limited k year later u indicators (some_each indicators run.each_indicator)
+          (are_from year later indicators are) range (omega arith) settled,
     )
 
 -- so are those of a leaf's table
 pub leaf_worth : (indicators : List ℕ) (prices : List (Option ℕ)) (benchmarks : List (Option ℤ)) (reference : ℕ) →
     All IsPositiveInRange indicators → All IsBenchmarkOrNone benchmarks → length benchmarks ≡ length indicators / 4 →
-    MeetsItsBenchmarks (leaf_table indicators prices benchmarks reference)
-    × IsWithinItsGap (leaf_table indicators prices benchmarks reference)
+    IsWorth (leaf_table indicators prices benchmarks reference)
 unfolding leaf_table
 leaf_worth indicators prices benchmarks reference each_indicator each_benchmark years =
     table_worth indicators prices reference (places_from 0 benchmarks) (present_benchmarks benchmarks)

@@ -1,6 +1,7 @@
 -- What is known of the items that were compiled before the item they stand under: the sizes of their cells, by the
 -- number of leaves under them.
-use Rattle.std.specs.Prelude.{◌≡◌, ℕ, ◌+◌, ◌-◌, ◌*◌, ◌^◌, ◌≤◌, ◌<◌, suc, ℤ, Bool, List, [], map, drop, length, reverse, slice_index_or, unsigned_abs, Option, Result}
+use Rattle.std.specs.Prelude.{◌≡◌, ℕ, ◌+◌, ◌-◌, ◌*◌, ◌^◌, ◌≤◌, ◌<◌, suc, ℤ, Bool, List, [], map, drop, length, reverse}
+use Rattle.std.specs.Prelude.{slice_index_or, unsigned_abs, Option, Result}
 use Rattle.std.specs.List.{All, list_any, range_with_len, flat_map}
 use Rattle.std.specs.Arc.{arc_value}
 use Rattle.std.specs.declared.sync.Arc.{Arc}
@@ -13,7 +14,7 @@ use Rattle.price_base.specs.Cells.{cell_at, IsFlow}
 use Rattle.series_tables.specs.Plan.{PlanShape, is_parent}
 use Rattle.series_tables.specs.Tree.{of_children, leaves_from, leaves_under}
 use Rattle.series_tables.specs.declared.input.Kind.{Kind}
-use Rattle.node_compile.specs.Laws.{MeetsItsBenchmarks, IsWithinItsGap}
+use Rattle.node_compile.specs.Laws.{MeetsItsBenchmarks, IsWithinItsGap, IsGapWithinLimit}
 use Rattle.node_compile.specs.Release.{item_table}
 use Rattle.node_compile.specs.Table.{Table, table_in, node_tables, Makes}
 use Rattle.node_compile.specs.declared.table.NodeTable.{NodeTable}
@@ -33,12 +34,13 @@ pub record AreItemCells (most leaves : ℕ) (cells : List Cell) : Type 0 where
   pub sizes : (t : ℕ) → IsSizedCell (most * leaves) (cell_at cells t)
 
 -- what is known of an item's table with so many leaves under the item: its values are within 10^24 a leaf and its
--- volumes within 10^15, and a leaf's values meet the benchmarks within the gap
+-- volumes within 10^15, and a leaf's values meet the benchmarks within the gap, which is within its limit
 pub record IsKnownItem (leaves : ℕ) (table : Table) : Type 0 where
   pub value : AreItemCells (10 ^ 24) leaves table.value
   pub prev : AreItemCells (10 ^ 15) leaves table.prev
   pub meets : MeetsItsBenchmarks table
   pub within : IsWithinItsGap table
+  pub limit : IsGapWithinLimit table
 
 -- these are the tables of the last items of a plan, the last item's first
 pub record AreLastItems (value_at : Kind → ℕ → ℕ → Option ℤ) (plan : PlanShape) (first : ℕ)

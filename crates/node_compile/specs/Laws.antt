@@ -1,8 +1,10 @@
 -- What an item's table is worth. In the words of the manual's chapter 6: a leaf's values meet the benchmarks, and no
 -- other series that meets them is better by more than the gap. In those of its chapter 8: chained volumes are the
 -- products of the links, up to a printed drift, and add up over the year.
-use Rattle.std.specs.Prelude.{◌≡◌, ◌≢◌, ◌↔◌, ℕ, ◌+◌, ◌^◌, ◌≤◌, ◌<◌, ℤ, pos, ◌<ℤ◌, List, map, length, IsSome, IfSome, IsSomeAnd, unwrap_or}
+use Rattle.std.specs.Prelude.{◌≡◌, ◌≢◌, ◌↔◌, ℕ, ◌+◌, ◌^◌, ◌≤◌, ◌<◌, ℤ, pos, ◌≤ℤ◌, ◌<ℤ◌, List, map, length, IsSome}
+use Rattle.std.specs.Prelude.{IfSome, IsSomeAnd, unwrap_or}
 use Rattle.denton_parts.specs.Benchmarks.{MeetsBenchmarks}
+use Rattle.denton_parts.specs.Limit.{limit_of}
 use Rattle.denton_parts.specs.Ratios.{IsWithinGap}
 use Rattle.price_base.specs.declared.Cell.{Cell}
 use Rattle.price_base.specs.declared.Cell.TheVariants.{Range}
@@ -30,6 +32,11 @@ abbrev pub IsWithinItsGap : Table → Type 0
 IsWithinItsGap table = IfSome table.leaf (λ certificate.
     IsWithinGap certificate.indicators (years_of_certificate certificate) (numbers_in table.value)
     certificate.gap (pos (10 ^ certificate.scale)))
+
+-- that gap is small: at most the limit for the certificate's indicators and scale, whatever the benchmarks
+abbrev pub IsGapWithinLimit : Table → Type 0
+IsGapWithinLimit table = IfSome table.leaf (λ certificate.
+    certificate.gap ≤ℤ limit_of (pos (10 ^ certificate.scale)) certificate.indicators)
 
 -- a cell is a number above zero
 abbrev pub IsAboveZero : Cell → Type 0

@@ -1,6 +1,7 @@
 -- The table of a leaf, from the run of its indicators, the prices of the run's quarters, the benchmarks of its whole
 -- years and the reference year (IMF Quarterly National Accounts Manual 2017, chapters 6 and 8).
-use Rattle.std.specs.Prelude.{ℕ, suc, ◌+◌, ◌-◌, ◌*◌, ◌^◌, ℤ, pos, List, [], ◌∷◌, ◌++◌, map, take, drop, replicate, length, slice_index_or, EachIndex, Option, Some, None}
+use Rattle.std.specs.Prelude.{ℕ, suc, ◌+◌, ◌-◌, ◌*◌, ◌^◌, ℤ, pos, List, [], ◌∷◌, ◌++◌, map, take, drop, replicate}
+use Rattle.std.specs.Prelude.{length, slice_index_or, EachIndex, Option, Some, None}
 use Rattle.annual_overlap.specs.Table.{chain_of}
 use Rattle.denton_parts.specs.Changes.{changes}
 use Rattle.denton_parts.specs.Gap.{gap_by}

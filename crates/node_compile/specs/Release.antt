@@ -1,5 +1,6 @@
 -- The compilation from scratch: the table of each item, from the last values of what was sent.
-use Rattle.std.specs.Prelude.{◌≡◌, ℕ, ◌*◌, ◌/◌, ℤ, List, map, sum, length, if◌then◌else◌, Option, None, Result, IfOk, unsigned_abs}
+use Rattle.std.specs.Prelude.{◌≡◌, ℕ, ◌*◌, ◌/◌, ℤ, List, map, sum, length, if◌then◌else◌, Option, None, Result, IfOk}
+use Rattle.std.specs.Prelude.{unsigned_abs}
 use Rattle.std.specs.List.{All, range_with_len}
 use Rattle.std.specs.Option.{option_map}
 use Rattle.aggregate_tree.specs.Leaves.{added}

@@ -1,7 +1,8 @@
 -- What a leaf's table has to do with the values that were sent last, in words that name no solver: its run, its
 -- benchmarked years, and the benchmarks that its values add up to (IMF Quarterly National Accounts Manual 2017, chapter
 -- 6).
-use Rattle.std.specs.Prelude.{◌≡◌, ◌↔◌, ℕ, ◌+◌, ◌*◌, ◌≤◌, ℤ, pos, true, List, map, length, slice_get, Option, Some, IsSome, IfSome}
+use Rattle.std.specs.Prelude.{◌≡◌, ◌↔◌, ℕ, ◌+◌, ◌*◌, ◌≤◌, ℤ, pos, true, List, map, length, slice_get, Option, Some}
+use Rattle.std.specs.Prelude.{IsSome, IfSome}
 use Rattle.annual_overlap.specs.Table.{AreNumbersAddingTo}
 use Rattle.annual_overlap.specs.Years.{quarters_in}
 use Rattle.series_tables.specs.LastValue.{run_of}

@@ -9,8 +9,9 @@ ghost use Rattle.denton_solve.specs.Sweeps.{multipliers_of, IsEnough};
 ghost use Rattle.price_base.specs.declared.Cell.TheVariants.{Value};
 ghost use Rattle.price_base.specs.Volumes.{volumes_of};
 ghost use Rattle.series_tables.specs.Ranges.{IsPositiveOrNone};
-ghost use Rattle.node_compile.specs.Laws.{MeetsItsBenchmarks, IsWithinItsGap};
-ghost use Rattle.node_compile.specs.Leaf.{AreBenchmarks, AreEnough, joints_in, missing_table as missing_table_of, table_of_years, leaf_table};
+ghost use Rattle.node_compile.specs.Laws.{MeetsItsBenchmarks, IsWithinItsGap, IsGapWithinLimit};
+ghost use Rattle.node_compile.specs.Leaf.{AreBenchmarks, AreEnough, joints_in, missing_table as missing_table_of};
+ghost use Rattle.node_compile.specs.Leaf.{table_of_years, leaf_table};
 ghost use Rattle.node_compile.specs.Sizes.{AreBelow, AreLeafValues, AreLeafVolumes};
 ghost use Rattle.node_compile.specs.Table.{Makes, table_in};
 
@@ -33,8 +34,9 @@ use std::sync::ledger::Ledger;
 /// the last the ratio with which it ends, and between two of them the ratio goes in even steps from the one to the
 /// other. Without a benchmarked year all values are missing. The volumes are those of the values at the average price
 /// of the year before, and the chain starts in `reference`, which is counted from the first year of the run. The values
-/// meet the benchmarks, and no series that meets them is better by more than the table's gap. Values are below 10^24 in
-/// size, volumes within 10^15. A step is one joint of one sweep of the solver.
+/// meet the benchmarks, no series that meets them is better by more than the table's gap, and the gap is at most the
+/// limit for the run's indicators. Values are below 10^24 in size, volumes within 10^15. A step is one joint of one
+/// sweep of the solver.
 pub fn compile_leaf<L: Ledger>(
     alloc: Global,
     input: &LeafInput,
@@ -47,6 +49,7 @@ pub fn compile_leaf<L: Ledger>(
         length table.flows.value ≡ length input.now.ind.items) }
     ensures meets { IfOk result (λ table. MeetsItsBenchmarks (table_in table)) }
     ensures within { IfOk result (λ table. IsWithinItsGap (table_in table)) }
+    ensures limit { IfOk result (λ table. IsGapWithinLimit (table_in table)) }
     ensures value_sizes { IfOk result (λ table. AreLeafValues table.flows.value) }
     ensures volume_sizes { IfOk result (λ table. AreLeafVolumes table.flows.prev) }
     ensures steps { (sweeps : ℕ) → AreEnough input.now.ind.items input.now.bench.items sweeps →

@@ -1,6 +1,7 @@
 //! The values of a leaf with benchmarked years.
 
-ghost use Rattle.std.specs.Prelude.{◌≡◌, ◌≤◌, ◌<◌, ◌+◌, ◌-◌, ◌*◌, pos, ◌++◌, ◌∷◌, take, drop, length, IfOk, EachIndex, slice_index, slice_index_or};
+ghost use Rattle.std.specs.Prelude.{◌≡◌, ◌≤◌, ◌<◌, ◌+◌, ◌-◌, ◌*◌, pos, ◌++◌, ◌∷◌, take, drop, length, IfOk, EachIndex};
+ghost use Rattle.std.specs.Prelude.{slice_index, slice_index_or};
 ghost use Rattle.denton_parts.specs.Scale.{scale_of_years};
 ghost use Rattle.denton_parts.specs.Year.{IsIndicator, IsMultiplier};
 ghost use Rattle.denton_parts.specs.Years.{AreYearsOf, Wherever, year_in, years_in};

@@ -4,8 +4,9 @@ ghost use Rattle.std.specs.Prelude.{◌≡◌, ◌≤◌, ◌<◌, ◌+◌, ◌*
 ghost use Rattle.series_tables.specs.Cells.{cell};
 ghost use Rattle.series_tables.specs.Plan.{is_parent, is_leaf};
 ghost use Rattle.node_compile.specs.Items.{AreLastItems, AreLastFlows, AreChildSums, IsKnownOf, MakesItem, has_child};
-ghost use Rattle.node_compile.specs.Laws.{MeetsItsBenchmarks, IsWithinItsGap, IsTrulyChained};
-ghost use Rattle.node_compile.specs.Release.{joints_of, most_steps, item_table, item_tables, tables_in, EachTable, Shows, IsCompiledFrom};
+ghost use Rattle.node_compile.specs.Laws.{MeetsItsBenchmarks, IsWithinItsGap, IsGapWithinLimit, IsTrulyChained};
+ghost use Rattle.node_compile.specs.Release.{joints_of, most_steps, item_table, item_tables, tables_in, EachTable};
+ghost use Rattle.node_compile.specs.Release.{Shows, IsCompiledFrom};
 ghost use Rattle.node_compile.specs.Table.{node_tables, Makes};
 
 use crate::inner::compile_inner;
@@ -33,8 +34,8 @@ pub struct Release {
 /// Compiles every item of the plan from the tables, which are the plan's: each leaf from its last values alone, and
 /// each inner item as the sum over the leaves under it, both chained from the plan's reference year. So the release is
 /// the compilation from scratch of any inputs that have these last values. A leaf's values meet its benchmarks within
-/// the gap, and every item's chained volumes are the products of its links up to the drift. `front` is passed on. A
-/// step is one joint of one sweep of the solver.
+/// the gap, which is at most the limit for its indicators, and every item's chained volumes are the products of its
+/// links up to the drift. `front` is passed on. A step is one joint of one sweep of the solver.
 pub fn compile_all<L: Ledger>(
     alloc: Global,
     plan: &Plan,
@@ -49,6 +50,7 @@ pub fn compile_all<L: Ledger>(
     ensures compiled { IfOk result (IsCompiledFrom plan.now tables.now) }
     ensures meets { IfOk result (EachTable MeetsItsBenchmarks) }
     ensures within { IfOk result (EachTable IsWithinItsGap) }
+    ensures limit { IfOk result (EachTable IsGapWithinLimit) }
     ensures chained { IfOk result (EachTable (IsTrulyChained plan.now.reference)) }
     ensures steps { steps.new ≤ steps.old + most_steps (cell tables.now) plan.now }
 {

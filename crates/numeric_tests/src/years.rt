@@ -2,7 +2,8 @@
 
 use denton_parts::{Quotient, YearPart, change_bounds, change_ceil, change_floor, level, scale_of};
 
-// Left and right multipliers, the quarter, and the change's floor and ceiling, for a year with the indicators 1, 2, 3 and 4.
+// Left and right multipliers, the quarter, and the change's floor and ceiling, for a year with the indicators 1, 2, 3
+// and 4.
 #[test]
 fn changes_are_weighed(rt: HostRuntime) {
     let part = YearPart::of([1, 2, 3, 4], 7);

@@ -6,12 +6,16 @@
 
 mod batch_rows;
 mod certificate_rows;
+mod hostile_rows;
 mod line_rows;
 mod plan_rows;
+mod verdict_rows;
 mod words_rows;
 
 pub use batch_rows::{BatchCase, FOOD_PLAN, batches};
 pub use certificate_rows::{CertificateCase, certificates};
+pub use hostile_rows::hostile_batches;
 pub use line_rows::{LineCase, lines};
 pub use plan_rows::{PLAN_STATUS, PlanCase, plans};
+pub use verdict_rows::{CERTIFICATE, VerdictCase, verdicts};
 pub use words_rows::{WordsCase, words};

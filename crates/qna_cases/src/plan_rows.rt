@@ -16,7 +16,7 @@ pub fn plans() -> &'static [PlanCase] {
     &PLANS
 }
 
-static PLANS: [PlanCase; 36] = [
+static PLANS: [PlanCase; 49] = [
     PlanCase {
         plan: b"",
         report: b"plan,1,nostart\n",
@@ -159,6 +159,58 @@ static PLANS: [PlanCase; 36] = [
     },
     PlanCase {
         plan: b"start,2021\nreference,21\n",
+        report: b"plan,2,form\n",
+    },
+    PlanCase {
+        plan: b"start,2021\nitem,FO\0OD,\n",
+        report: b"plan,2,form\n",
+    },
+    PlanCase {
+        plan: b"start,2021\nitem,\xFF,\n",
+        report: b"plan,2,form\n",
+    },
+    PlanCase {
+        plan: b"start,2021\nitem,A,\xFF\n",
+        report: b"plan,2,noparent\n",
+    },
+    PlanCase {
+        plan: b"start,2021\nitem,\"A,\n",
+        report: b"plan,2,form\n",
+    },
+    PlanCase {
+        plan: b"start,2021\nitem,\"A\"\"B\",\n",
+        report: b"plan,2,form\n",
+    },
+    PlanCase {
+        plan: b"start,65536\n",
+        report: b"plan,1,form\n",
+    },
+    PlanCase {
+        plan: b"start,\xD9\xA2021\n",
+        report: b"plan,1,form\n",
+    },
+    PlanCase {
+        plan: b"start,-021\n",
+        report: b"plan,1,form\n",
+    },
+    PlanCase {
+        plan: b"start,2021\ritem,A,\r",
+        report: b"plan,1,form\n",
+    },
+    PlanCase {
+        plan: b"start,2021\n################################################################################################################################################################################################################################################################\n#################################################################################################################################################################################################################################################################\n",
+        report: b"plan,3,form\n",
+    },
+    PlanCase {
+        plan: b"start,2021\nitem,NNNNNNNNNNNNNNNNNNNNNNNNNNNNNNNN,\nitem,NNNNNNNNNNNNNNNNNNNNNNNNNNNNNNNNN,\n",
+        report: b"plan,3,form\n",
+    },
+    PlanCase {
+        plan: b"start,2021\nitem,FOOD,\nitem,SER",
+        report: b"plan,3,form\n",
+    },
+    PlanCase {
+        plan: b"start,2021\nitem,FOOD",
         report: b"plan,2,form\n",
     },
 ];

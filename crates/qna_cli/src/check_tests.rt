@@ -1,40 +1,13 @@
 // `check` over files in memory: the worked certificate and changed ones, the limits, the devices, and other words.
 
-ghost use Rattle.std.specs.Prelude.{◌<◌};
+ghost use Rattle.std.specs.Prelude.{◌<◌, ◌≤◌};
 
 use crate::{run, run_check};
+use qna_cases::{CERTIFICATE, verdicts};
 use qna_edges::{MemCabinet, MemSink, MemSource, OpenGate, Status};
 use std::alloc::Global;
 use std::process::Abort;
 use std::test::Fail;
-
-/// The lines of the certificate of two years with the indicator 100 and the benchmarks 1000 and 1400.
-const LINES: [&[u8]; 24] = [
-    b"cert,FOOD,10",
-    b"scale,12",
-    b"start,2021",
-    b"i,2021Q1,100",
-    b"i,2021Q2,100",
-    b"i,2021Q3,100",
-    b"i,2021Q4,100",
-    b"i,2022Q1,100",
-    b"i,2022Q2,100",
-    b"i,2022Q3,100",
-    b"i,2022Q4,100",
-    b"b,2021,1000",
-    b"b,2022,1400",
-    b"x,2021Q1,227",
-    b"x,2021Q2,236",
-    b"x,2021Q3,255",
-    b"x,2021Q4,282",
-    b"x,2022Q1,318",
-    b"x,2022Q2,345",
-    b"x,2022Q3,364",
-    b"x,2022Q4,373",
-    b"u,2021,363636363636",
-    b"gap,163636363636363636364",
-    b"end",
-];
 
 /// The years' benchmarks shared out by the year's ratio, with no multiplier; the gap stands in another row.
 const ANNUAL_RATIOS: [(usize, &[u8]); 9] = [
@@ -105,7 +78,7 @@ fn line_at<'a>(number: usize, line: &'a [u8], changes: &[(usize, &'a [u8])]) -> 
 /// So many of the lines, with other texts in place of some.
 fn text_with(alloc: Global, count: usize, changes: &[(usize, &[u8])]) -> Result<Vec<u8>, Fail> {
     let mut text = Vec::new(alloc);
-    for (i, line) in LINES.iter().enumerate() {
+    for (i, line) in CERTIFICATE.iter().enumerate() {
         if i < count {
             text.extend_from_slice(line_at(i + 1, line, changes))?;
             text.push(b'\n')?;
@@ -115,7 +88,13 @@ fn text_with(alloc: Global, count: usize, changes: &[(usize, &[u8])]) -> Result<
 }
 
 /// Asserts what is reported of a text, whether it is read and written whole or byte by byte.
-fn check_report(rt: &impl Abort, alloc: Global, text: &[u8], report: &[u8]) -> Result<(), Fail> {
+fn check_report(
+    rt: &impl Abort,
+    alloc: Global,
+    text: &[u8],
+    name: &str,
+    report: &[u8],
+) -> Result<(), Fail> {
     let status = if report == b"yes\n".as_slice() {
         Status::Done
     } else {
@@ -123,8 +102,8 @@ fn check_report(rt: &impl Abort, alloc: Global, text: &[u8], report: &[u8]) -> R
     };
     for piece in [1, 4096] {
         let left = left_by_check(alloc, text, &Devices { piece, ..WORKING })?;
-        assert_eq!(rt; left.report.as_slice(), report);
-        assert_eq!(rt; left.status, status);
+        assert_eq!(rt; left.report.as_slice(), report, "{name}");
+        assert_eq!(rt; left.status, status, "{name}");
     }
     Ok(())
 }
@@ -132,44 +111,9 @@ fn check_report(rt: &impl Abort, alloc: Global, text: &[u8], report: &[u8]) -> R
 #[test]
 fn certificates_get_their_verdict(rt: HostRuntime) -> Result<(), Fail> {
     let alloc = rt.alloc();
-    for (count, number, other, report) in [
-        (24, 0, b"".as_slice(), b"yes\n".as_slice()),
-        (24, 14, b"x,2021Q1,228", b"no,sum,2021\n"),
-        (24, 20, b"x,2022Q3,365", b"no,sum,2022\n"),
-        (
-            24,
-            23,
-            b"gap,163636363636363636363",
-            b"no,gap,163636363636363636363,163636363636363636364\n",
-        ),
-        (
-            24,
-            22,
-            b"u,2021,0",
-            b"no,gap,163636363636363636364,363800000000000000000000\n",
-        ),
-        (10, 0, b"", b"no,shape,11\n"),
-        (24, 4, b"i,2021Q1,0", b"no,range,4\n"),
-        (24, 14, b"x,2021Q1,1000001", b"no,range,14\n"),
-        (24, 14, b"x,2021Q1,1000000", b"no,sum,2021\n"),
-        (24, 22, b"u,2021,1000000000000001", b"no,range,22\n"),
-        (
-            24,
-            23,
-            b"gap,1000000000000000000000000000000000001",
-            b"no,range,23\n",
-        ),
-        (
-            24,
-            23,
-            b"gap,99999999999999999999999999999999999999999999999",
-            b"no,range,23\n",
-        ),
-        (24, 24, b"end\nend", b"no,shape,25\n"),
-        (24, 1, b"# of FOOD\n\ncert,FOOD,10\r", b"yes\n"),
-    ] {
-        let text = text_with(alloc, count, &[(number, other)])?;
-        check_report(&rt, alloc, &text, report)?;
+    for case in verdicts() {
+        let text = text_with(alloc, case.lines, &[(case.line, case.text)])?;
+        check_report(&rt, alloc, &text, case.name, case.report)?;
     }
     Ok(())
 }
@@ -187,7 +131,7 @@ fn annual_ratios_have_a_true_and_large_gap(rt: HostRuntime) -> Result<(), Fail> 
         let mut changes = ANNUAL_RATIOS.to_vec(alloc)?;
         changes.push((23, gap))?;
         let text = text_with(alloc, 24, &changes)?;
-        check_report(&rt, alloc, &text, report)?;
+        check_report(&rt, alloc, &text, "annual ratios", report)?;
     }
     Ok(())
 }
@@ -198,29 +142,44 @@ fn cut_certificates_lack_the_next_line(rt: HostRuntime) -> Result<(), Fail> {
     for count in 0..24u8 {
         let text = text_with(alloc, usize::from(count), &[])?;
         let report = format!(in alloc; "no,shape,{}\n", count + 1)?;
-        check_report(&rt, alloc, &text, report.as_bytes())?;
+        check_report(&rt, alloc, &text, "a cut certificate", report.as_bytes())?;
     }
     let mut text = text_with(alloc, 24, &[])?;
     text.pop();
-    check_report(&rt, alloc, &text, b"yes\n")
+    check_report(&rt, alloc, &text, "no last line feed", b"yes\n")
 }
 
-#[test]
-fn certificates_of_many_quarters_are_refused(rt: HostRuntime) -> Result<(), Fail> {
-    let alloc = rt.alloc();
+/// A certificate of so many quarters with the indicator 100 and the value 250, of which the first year is benchmarked.
+fn text_of_quarters(alloc: Global, quarters: u16) -> Result<Vec<u8>, Fail>
+    requires { quarters ≤ 512 }
+{
     let mut text = Vec::new(alloc);
     text.extend_from_slice(b"cert,FOOD,10\nscale,12\nstart,2021\n")?;
-    for t in 0..257u16 {
+    for t in 0..quarters {
         let line = format!(in alloc; "i,{}Q{},100\n", 2021 + t / 4, t % 4 + 1)?;
         text.extend_from_slice(line.as_bytes())?;
     }
     text.extend_from_slice(b"b,2021,1000\n")?;
-    for t in 0..257u16 {
+    for t in 0..quarters {
         let line = format!(in alloc; "x,{}Q{},250\n", 2021 + t / 4, t % 4 + 1)?;
         text.extend_from_slice(line.as_bytes())?;
     }
     text.extend_from_slice(b"gap,0\nend\n")?;
-    check_report(&rt, alloc, &text, b"no,range,260\n")
+    Ok(text)
+}
+
+#[test]
+fn certificates_have_256_quarters_at_most(rt: HostRuntime) -> Result<(), Fail> {
+    let alloc = rt.alloc();
+    for (quarters, report) in [
+        (256, b"yes\n".as_slice()),
+        (257, b"no,range,260\n"),
+        (512, b"no,range,260\n"),
+    ] {
+        let text = text_of_quarters(alloc, quarters)?;
+        check_report(&rt, alloc, &text, "many quarters", report)?;
+    }
+    Ok(())
 }
 
 #[test]

@@ -6,6 +6,7 @@
 mod certificates;
 mod journals;
 mod releases;
+mod sweeps;
 
 pub use certificates::{
     accepted_certificates_are_found_true, compiled_certificate_is_true,
@@ -13,3 +14,4 @@ pub use certificates::{
 };
 pub use journals::{written_journals_are_read, written_journals_fix_what_was_accepted};
 pub use releases::releases_are_certified;
+pub use sweeps::sweeps_come_near;

@@ -9,8 +9,8 @@ use super::{rises_of, scaled_benchmark, weighed_sum};
 use crate::year::YearPart;
 use ratio_arith::floor_div;
 
-/// The benchmark-to-indicator ratios of a year's first and last quarter: the floors of their levels over the year's indicator sum, in units of 1 over
-/// the scale.
+/// The benchmark-to-indicator ratios of a year's first and last quarter: the floors of their levels over the year's
+/// indicator sum, in units of 1 over the scale.
 #[derive(Clone, Copy, Debug, PartialEq, Eq)]
 pub struct Ends {
     /// the floor of the first quarter's ratio
@@ -26,8 +26,10 @@ pub fn ends_of(part: &YearPart, scale: u8, left: i128, right: i128) -> Ends
     requires right { IsMultiplier right }
     requires scale { scale ≤ 15 }
     requires fits { 10 ^ scale * unsigned_abs part.now.bench ≤ 10 ^ 13 * year_sum part.now.ind }
-    ensures first { result.first ≡ floor_of (level_of part.now.ind part.now.bench scale left right 0) (pos (year_sum part.now.ind)) }
-    ensures last { result.last ≡ floor_of (level_of part.now.ind part.now.bench scale left right 3) (pos (year_sum part.now.ind)) }
+    ensures first { result.first ≡ floor_of
+        (level_of part.now.ind part.now.bench scale left right 0) (pos (year_sum part.now.ind)) }
+    ensures last { result.last ≡ floor_of
+        (level_of part.now.ind part.now.bench scale left right 3) (pos (year_sum part.now.ind)) }
     ensures first_size { unsigned_abs result.first ≤ 7 * 10 ^ 15 }
     ensures last_size { unsigned_abs result.last ≤ 7 * 10 ^ 15 }
 {

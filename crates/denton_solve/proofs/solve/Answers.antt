@@ -7,6 +7,7 @@ use Rattle.denton_solve.specs.Sweeps.{sweep_of, no_multipliers}
 use Rattle.denton_solve.proofs.Joints.{apart_places, apart_count, multipliers_shift, enough_shift}
 use Rattle.denton_solve.proofs.Pairs.{zeros_at, zeros_small, multipliers_of-is, multipliers_found, one_moving, both_moving, enough_least, steps_made, steps_first, steps_second, steps_next, steps_whole}
 use Rattle.denton_solve.proofs.Scaled.{scaled, scale_most}
+use Rattle.denton_solve.proofs.Settling.{parts_settled}
 use Rattle.denton_solve.proofs.Steps.{sweep_of-sizes, iterated-none, iterated-pair, ends_first, ends_second}
 use Rattle.denton_solve.proofs.solve.Goals as goal
 
@@ -104,6 +105,11 @@ returns-then-sweep-clause-multipliers g c = λ first.
 pub returns-then-sweep-clause-sizes : goal.returns-then-sweep-clause-sizes
 returns-then-sweep-clause-sizes g c = c.loop-pair.invariant.sizes
 
+pub returns-then-sweep-clause-residuals : goal.returns-then-sweep-clause-residuals
+returns-then-sweep-clause-residuals g c = λ first.
+    parts_settled c.args.scale first c.args.miss.now c.args.parts.now _ c.requires.between c.requires.scale
+    (returns-then-sweep-clause-multipliers g c first)
+
 pub returns-then-sweep-clause-steps : goal.returns-then-sweep-clause-steps
 returns-then-sweep-clause-steps g c = λ first sweeps enough.
     let years : List BenchmarkedYear = years_apart 0 c.args.miss.now c.args.parts.now in
@@ -133,6 +139,11 @@ returns-then-sweep-2-clause-sizes g c =
     subst P (sym c.sweep-in-loop-pair.ensures.value)
     (sweep_of-sizes c.args.scale (years_apart 0 c.args.miss.now c.args.parts.now) c.sweep.new.into)
 
+pub returns-then-sweep-2-clause-residuals : goal.returns-then-sweep-2-clause-residuals
+returns-then-sweep-2-clause-residuals g c = λ first.
+    parts_settled c.args.scale first c.args.miss.now c.args.parts.now _ c.requires.between c.requires.scale
+    (returns-then-sweep-2-clause-multipliers g c first)
+
 pub returns-then-sweep-2-clause-steps : goal.returns-then-sweep-2-clause-steps
 returns-then-sweep-2-clause-steps g c = λ first sweeps enough.
     let years : List BenchmarkedYear = years_apart 0 c.args.miss.now c.args.parts.now in
@@ -154,6 +165,11 @@ returns-clause-multipliers g c = λ first.
 
 pub returns-clause-sizes : goal.returns-clause-sizes
 returns-clause-sizes g c = c.loop-pair.invariant.sizes
+
+pub returns-clause-residuals : goal.returns-clause-residuals
+returns-clause-residuals g c = λ first.
+    parts_settled c.args.scale first c.args.miss.now c.args.parts.now _ c.requires.between c.requires.scale
+    (returns-clause-multipliers g c first)
 
 pub returns-clause-steps : goal.returns-clause-steps
 returns-clause-steps g c = λ first sweeps enough.

@@ -1,27 +1,33 @@
 // The rows of `qna_cases`.
 
 use super::{Devices, WORKING, assert_left, left_by_batch};
-use qna_cases::{FOOD_PLAN, PLAN_STATUS, batches, plans};
+use qna_cases::{BatchCase, FOOD_PLAN, PLAN_STATUS, batches, hostile_batches, plans};
+use std::alloc::Global;
+use std::process::Abort;
 use std::test::Fail;
+
+/// Asserts what `batch` leaves of each row, whether its files are read and written whole or in pieces.
+fn assert_rows(rt: &impl Abort, alloc: Global, cases: &[BatchCase]) -> Result<(), Fail> {
+    for case in cases {
+        for piece in [1, 2, 7, 4096] {
+            let devices = Devices { piece, ..WORKING };
+            let left = left_by_batch(alloc, case.plan, case.input, &devices)?;
+            assert_left(rt, &left, case.name, case.status, case.release, case.report)?;
+        }
+    }
+    Ok(())
+}
 
 #[test]
 fn releases_and_reports_follow_the_rows(rt: HostRuntime) -> Result<(), Fail> {
     let alloc = rt.alloc();
-    for case in batches() {
-        for piece in [1, 2, 7, 4096] {
-            let devices = Devices { piece, ..WORKING };
-            let left = left_by_batch(alloc, case.plan, case.input, &devices)?;
-            assert_left(
-                &rt,
-                &left,
-                case.name,
-                case.status,
-                case.release,
-                case.report,
-            )?;
-        }
-    }
-    Ok(())
+    assert_rows(&rt, alloc, batches())
+}
+
+#[test]
+fn hostile_lines_are_reported(rt: HostRuntime) -> Result<(), Fail> {
+    let alloc = rt.alloc();
+    assert_rows(&rt, alloc, hostile_batches())
 }
 
 #[test]

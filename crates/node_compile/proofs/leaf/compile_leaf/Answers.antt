@@ -1,5 +1,5 @@
 use Rattle.std.proofs.Common.{◌≡◌, ◌∙◌, ◌≤◌, ap, sym, subst, arith, List, Option, ℕ, ℤ, [], length}
-use Rattle.node_compile.specs.Laws.{MeetsItsBenchmarks, IsWithinItsGap}
+use Rattle.node_compile.specs.Laws.{MeetsItsBenchmarks, IsWithinItsGap, IsGapWithinLimit}
 use Rattle.node_compile.specs.Leaf.{places_from, present_benchmarks, missing_table, table_of_years, leaf_table}
 use Rattle.node_compile.specs.Table.{Table, table_in}
 use Rattle.node_compile.proofs.Outcomes.{if_ok, none_there}
@@ -32,6 +32,13 @@ returns-then-is_empty-clause-within g c =
     let worth = leaf_worth c.args.input.now.ind.items c.args.input.now.price.items c.args.input.now.bench.items
     c.args.reference.0 c.args.input.now.indicators c.args.input.now.benchmarks (omega arith) in
     if_ok c.missing_table.result _ _ (λ table e. subst (λ (t : Table). IsWithinItsGap t) (sym e) worth.1)
+    (returns-then-is_empty-clause-table g c)
+
+pub returns-then-is_empty-clause-limit : goal.returns-then-is_empty-clause-limit
+returns-then-is_empty-clause-limit g c =
+    let worth = leaf_worth c.args.input.now.ind.items c.args.input.now.price.items c.args.input.now.bench.items
+    c.args.reference.0 c.args.input.now.indicators c.args.input.now.benchmarks (omega arith) in
+    if_ok c.missing_table.result _ _ (λ table e. subst (λ (t : Table). IsGapWithinLimit t) (sym e) worth.2)
     (returns-then-is_empty-clause-table g c)
 
 pub benchmarked_table-requires-clause-placed : goal.benchmarked_table-requires-clause-placed
@@ -82,6 +89,13 @@ returns-clause-within g c =
     let worth = leaf_worth c.args.input.now.ind.items c.args.input.now.price.items c.args.input.now.bench.items
     c.args.reference.0 c.args.input.now.indicators c.args.input.now.benchmarks (omega arith) in
     if_ok c.benchmarked_table.result _ _ (λ table e. subst (λ (t : Table). IsWithinItsGap t) (sym e) worth.1)
+    (returns-clause-table g c)
+
+pub returns-clause-limit : goal.returns-clause-limit
+returns-clause-limit g c =
+    let worth = leaf_worth c.args.input.now.ind.items c.args.input.now.price.items c.args.input.now.bench.items
+    c.args.reference.0 c.args.input.now.indicators c.args.input.now.benchmarks (omega arith) in
+    if_ok c.benchmarked_table.result _ _ (λ table e. subst (λ (t : Table). IsGapWithinLimit t) (sym e) worth.2)
     (returns-clause-table g c)
 
 pub returns-clause-steps : goal.returns-clause-steps

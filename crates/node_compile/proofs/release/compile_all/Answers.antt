@@ -7,7 +7,7 @@ use Rattle.series_tables.specs.Cells.{cell}
 use Rattle.series_tables.specs.declared.input.Kind.{Kind}
 use Rattle.series_tables.specs.Plan.{PlanShape}
 use Rattle.node_compile.specs.Items.{AreLastItems}
-use Rattle.node_compile.specs.Laws.{MeetsItsBenchmarks, IsWithinItsGap, IsTrulyChained}
+use Rattle.node_compile.specs.Laws.{MeetsItsBenchmarks, IsWithinItsGap, IsGapWithinLimit, IsTrulyChained}
 use Rattle.node_compile.specs.Release.{most_steps, joints_of}
 use Rattle.node_compile.specs.Table.{Table, table_in}
 use Rattle.node_compile.specs.declared.table.NodeTable.{NodeTable}
@@ -80,6 +80,12 @@ returns-clause-meets g c =
 pub returns-clause-within : goal.returns-clause-within
 returns-clause-within g c =
     all_known IsWithinItsGap (cell c.args.tables.now) c.args.plan.now c.loop-item.item (map view c.loop-item.nodes.items) (map view c.reverse.new.self.items) (omega (arith, c.loop-item-test.false)) c.loop-item.invariant.0 (returns-clause-nodes g c) (λ leaves table known. known.within)
+
+pub returns-clause-limit : goal.returns-clause-limit
+returns-clause-limit g c =
+    all_known IsGapWithinLimit (cell c.args.tables.now) c.args.plan.now c.loop-item.item
+    (map view c.loop-item.nodes.items) (map view c.reverse.new.self.items) (omega (arith, c.loop-item-test.false))
+    c.loop-item.invariant.0 (returns-clause-nodes g c) (λ leaves table known. known.limit)
 
 pub returns-clause-steps : goal.returns-clause-steps
 returns-clause-steps g c =

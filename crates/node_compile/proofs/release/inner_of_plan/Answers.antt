@@ -41,5 +41,6 @@ returns-clause-known c =
       prev = sum_is_known (10 ^ 15) c.args.item c.args.plan.now _ c.in_ok-sum.sum.prev inside parent (flows_of_sum c.in_ok-sum.sum.prev) c.in_ok-sum.ensures.1;
       meets = tt;
       within = tt;
+      limit = tt;
     } in
     if_ok c.compile_inner.result _ _ (λ table e. subst (λ (t : Table). IsKnownItem (length (leaves_under c.args.plan.now c.args.item)) t) (sym e) known) c.compile_inner.ensures.table
