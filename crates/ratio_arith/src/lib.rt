@@ -11,7 +11,10 @@ pub fn floor_div(n: i128, d: i128) -> i128
     ensures value { result ≡ floor_of n d }
     ensures floor { IsFloor n d result }
 {
-    n.div_euclid(d)
+    match (i64::try_from(n), i64::try_from(d)) {
+        (Ok(narrow), Ok(by)) => i128::from(narrow.div_euclid(by)),
+        _ => n.div_euclid(d),
+    }
 }
 
 /// The ceiling of `n / d`: the least whole number at least the quotient.
