@@ -1,7 +1,7 @@
 //! The scaled levels of a year's ratio.
 
 ghost use Rattle.std.specs.Prelude.{◌≡◌, ◌≤◌, ◌<◌, ◌+◌, ◌*◌, ◌^◌, pos, ◌+ℤ◌, ◌-ℤ◌, ◌*ℤ◌, ◌≤ℤ◌, ◌<ℤ◌, length};
-ghost use Rattle.std.specs.Prelude.{slice_index, slice_index_or, unsigned_abs};
+ghost use Rattle.std.specs.Prelude.{slice_index, slice_index_or, unsigned_abs, EachIndex};
 ghost use Rattle.denton_parts.specs.Level.{level_of, rises, weighed_rises, LevelsAddUp};
 ghost use Rattle.denton_parts.specs.Year.{IsIndicator, IsMultiplier, year_sum};
 
@@ -24,6 +24,23 @@ pub fn level(part: &YearPart, scale: u8, left: i128, right: i128, j: usize) -> i
     ensures size { unsigned_abs result < 3 * 10 ^ 25 }
     ensures weighed { slice_index part.now.ind j * unsigned_abs result < 3 * 10 ^ 34 }
 {
+    levels_of(part, scale, left, right)[j]
+}
+
+/// The levels of the year's four quarters between the same multipliers, by one division for each change within the
+/// year.
+pub fn levels_of(part: &YearPart, scale: u8, left: i128, right: i128) -> [i128; 4]
+    requires left { IsMultiplier left }
+    requires right { IsMultiplier right }
+    requires scale { scale ≤ 15 }
+    requires fits { 10 ^ scale * unsigned_abs part.now.bench ≤ 10 ^ 13 * year_sum part.now.ind }
+    ensures values { EachIndex result (λ j. slice_index_or result j (pos 0)
+        ≡ level_of part.now.ind part.now.bench scale left right j) }
+    ensures sizes { EachIndex result (λ j.
+        unsigned_abs (slice_index_or result j (pos 0)) < 3 * 10 ^ 25) }
+    ensures weighed { EachIndex result (λ j.
+        slice_index part.now.ind j * unsigned_abs (slice_index_or result j (pos 0)) < 3 * 10 ^ 34) }
+{
     let rises = rises_of(part, left, right);
     let base = scaled_benchmark(scale, part.bench);
     let weighed = weighed_sum(
@@ -34,7 +51,12 @@ pub fn level(part: &YearPart, scale: u8, left: i128, right: i128, j: usize) -> i
         rises[2],
         rises[3],
     );
-    raised(base, weighed, part.sum, rises[j])
+    [
+        raised(base, weighed, part.sum, rises[0]),
+        raised(base, weighed, part.sum, rises[1]),
+        raised(base, weighed, part.sum, rises[2]),
+        raised(base, weighed, part.sum, rises[3]),
+    ]
 }
 
 /// Law: whatever the multipliers are, the four indicators of a year times their levels add up to 10^scale times the sum

@@ -13,7 +13,7 @@ ghost use Rattle.ratio_arith.specs.Division.{floor_of, ceil_of};
 ghost use Rattle.denton_parts.specs.Changes.{Fraction, change_in_year};
 ghost use Rattle.denton_parts.specs.Year.{IsMultiplier, year_sum};
 
-pub use levels::{Ends, ends_of, level, level_unit, levels_add_up};
+pub use levels::{Ends, ends_of, level, level_unit, levels_add_up, levels_of};
 pub use quotient::{Quotient, quotient_of};
 use ratio_arith::{ceil_div, floor_div};
 pub use run::{first_quarter, part_at};

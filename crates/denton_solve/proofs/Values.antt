@@ -10,7 +10,7 @@ use Rattle.ratio_arith.specs.Division.{floor_of}
 use Rattle.ratio_arith.specs.Nearness.{IsNear}
 use Rattle.ratio_arith.proofs.Floors.{floor_is}
 use Rattle.ratio_arith.proofs.Ring.{same_by_ring, var, num, ◌⊕◌}
-use Rattle.sum_rounding.specs.ShareOut.{share_of, sum_of, CanShare, IsShareOut}
+use Rattle.sum_rounding.specs.ShareOut.{sum_of, CanShare, IsShareOut}
 use Rattle.sum_rounding.proofs.Laws.{ranks_share_out}
 use Rattle.denton_parts.specs.Benchmarks.{AddsUpTo, year_total}
 use Rattle.denton_parts.specs.Level.{level_of, level_unit}
@@ -25,12 +25,11 @@ use Rattle.denton_solve.specs.Sweeps.{first_of}
 use Rattle.denton_solve.proofs.Benchmarks.{parts_add_up}
 
 -- the parts that the code makes add up to the divisor times the benchmark
-pub parts_shared : (k : ℕ) (year : BenchmarkedYear) (left right a b c d den benchmark : ℤ) →
-    a ≡ value_part k year left right 0 → b ≡ value_part k year left right 1 → c ≡ value_part k year left right 2 →
-    d ≡ value_part k year left right 3 → den ≡ level_unit k year → benchmark ≡ year.benchmark →
-    sum_of (a ∷ b ∷ c ∷ d ∷ []) ≡ den *ℤ benchmark
-parts_shared k year left right a b c d den benchmark ea eb ec ed e e_benchmark =
-    rw (ea, eb, ec, ed, e, e_benchmark) (parts_add_up k year left right)
+pub parts_shared : (k : ℕ) (year : BenchmarkedYear) (left right : ℤ) (parts : List ℤ) (den benchmark : ℤ) →
+    parts ≡ value_parts k year left right → den ≡ level_unit k year → benchmark ≡ year.benchmark →
+    sum_of parts ≡ den *ℤ benchmark
+parts_shared k year left right parts den benchmark e_parts e e_benchmark =
+    rw (e_parts, e, e_benchmark) (parts_add_up k year left right)
 
 -- a part that the code makes, from multipliers that it passed on
 pub part_is : (k : ℕ) (year : BenchmarkedYear) (left right passed_left passed_right : ℤ) (j : ℕ) (level part : ℤ) →
@@ -41,13 +40,9 @@ part_is k year left right passed_left passed_right j level part e_left e_right e
     e ∙ ap (λ (n : ℤ). pos (slice_index year.indicators j) *ℤ n) e_level
     ∙ ap (λ (n : ℤ). value_part k year n passed_right j) e_left ∙ ap (λ (n : ℤ). value_part k year left n j) e_right
 
--- and their share-out is the year's
-pub year_series_is : (k : ℕ) (year : YearPart) (left right a b c d den : ℤ) →
-    a ≡ value_part k (year_in 0 year) left right 0 → b ≡ value_part k (year_in 0 year) left right 1 →
-    c ≡ value_part k (year_in 0 year) left right 2 → d ≡ value_part k (year_in 0 year) left right 3 →
-    den ≡ pos (10 ^ k) *ℤ pos (year_sum year.ind) →
-    share_of (a ∷ b ∷ c ∷ d ∷ []) den year.bench ≡ year_series k (year_in 0 year) left right
-year_series_is k year left right a b c d den ea eb ec ed e = rw (ea, eb, ec, ed, e) refl
+-- four numbers that are four others, one by one
+pub four_same : {a b c d w x y z : ℤ} → a ≡ w → b ≡ x → c ≡ y → d ≡ z → (a ∷ b ∷ c ∷ d ∷ []) ≡ (w ∷ x ∷ y ∷ z ∷ [])
+four_same ea eb ec ed = rw (ea, eb, ec, ed) refl
 
 -- the parts of a year in range can be shared out
 can_share : (k : ℕ) (year : BenchmarkedYear) (left right : ℤ) → AreIndicators year.indicators →

@@ -2,18 +2,19 @@
 
 ghost use Rattle.std.specs.Prelude.{◌≡◌, ◌≤◌, ◌<◌, ◌+◌, ◌*◌, ◌^◌, ℕ, pos, ◌*ℤ◌, ◌≤ℤ◌, ◌<ℤ◌, length, take, drop, ◌++◌};
 ghost use Rattle.std.specs.Prelude.{slice_index, slice_index_or, unsigned_abs, EachIndex};
+ghost use Rattle.std.specs.List.{All};
 ghost use Rattle.denton_parts.specs.Benchmarks.{AddsUpTo};
 ghost use Rattle.denton_parts.specs.Scale.{scale_of_years};
 ghost use Rattle.denton_parts.specs.Year.{IsMultiplier};
 ghost use Rattle.denton_parts.specs.Years.{IsInReach, Wherever, indicators_of, year_in};
 ghost use Rattle.denton_parts.specs.declared.year.YearPart.{YearPart};
 ghost use Rattle.denton_solve.specs.Conditions.{AreMultipliers, IsScaled};
-ghost use Rattle.denton_solve.specs.Series.{series_of, value_part, year_series, AreShareOuts};
+ghost use Rattle.denton_solve.specs.Series.{series_of, value_parts, year_series, AreShareOuts};
 ghost use Rattle.denton_solve.specs.Sweeps.{first_of};
 
 use crate::sweep::multiplier_at;
-use denton_parts::{YearPart, level, level_unit};
-use sum_rounding::share_four;
+use denton_parts::{YearPart, level_unit, levels_of};
+use sum_rounding::share_out;
 
 /// Writes into `out` the values of the years' quarters in whole currency units, four a year, one year behind the other
 /// wherever they stand: each year's benchmark shared out in proportion to its indicators times their levels, between
@@ -55,7 +56,6 @@ fn write_year(quarters: &[i128; 4], year: usize, out: &mut [i128])
 }
 
 // The year's four values, between the multipliers before and after it.
-#[tactic(auto, using(crate::proofs::Values::year_series_is))]
 fn quarters_of(year: &YearPart, scale: u8, left: i128, right: i128) -> [i128; 4]
     requires scale { scale ≤ 15 }
     requires scaled { IsScaled scale (year_in 0 year.now) }
@@ -63,27 +63,32 @@ fn quarters_of(year: &YearPart, scale: u8, left: i128, right: i128) -> [i128; 4]
     requires right { IsMultiplier right }
     ensures { result ≡ year_series scale (year_in 0 year.now) left right }
 {
-    share_four(
-        part(year, scale, left, right, 0),
-        part(year, scale, left, right, 1),
-        part(year, scale, left, right, 2),
-        part(year, scale, left, right, 3),
+    let mut quarters = [0; 4];
+    share_out(
+        &parts_of(year, scale, left, right),
         level_unit(year, scale),
         i128::from(year.bench),
-    )
+        &mut quarters,
+    );
+    quarters
 }
 
-// A quarter's indicator times its level.
-fn part(year: &YearPart, scale: u8, left: i128, right: i128, j: usize) -> i128
-    requires quarter { j < 4 }
+// Each quarter's indicator times its level.
+fn parts_of(year: &YearPart, scale: u8, left: i128, right: i128) -> [i128; 4]
     requires scale { scale ≤ 15 }
     requires scaled { IsScaled scale (year_in 0 year.now) }
     requires left { IsMultiplier left }
     requires right { IsMultiplier right }
-    ensures value { result ≡ value_part scale (year_in 0 year.now) left right j }
-    ensures size { unsigned_abs result ≤ 10 ^ 37 }
+    ensures value { result ≡ value_parts scale (year_in 0 year.now) left right }
+    ensures sizes { All (λ part. unsigned_abs part ≤ 10 ^ 37) result }
 {
-    weighed(year.ind[j], level(year, scale, left, right, j))
+    let levels = levels_of(year, scale, left, right);
+    [
+        weighed(year.ind[0], levels[0]),
+        weighed(year.ind[1], levels[1]),
+        weighed(year.ind[2], levels[2]),
+        weighed(year.ind[3], levels[3]),
+    ]
 }
 
 // An indicator times a level.

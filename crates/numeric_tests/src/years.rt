@@ -1,6 +1,8 @@
 // The figures of benchmarked years.
 
-use denton_parts::{Quotient, YearPart, change_bounds, change_ceil, change_floor, level, scale_of};
+use denton_parts::{
+    Quotient, YearPart, change_bounds, change_ceil, change_floor, level, levels_of, scale_of,
+};
 
 // Left and right multipliers, the quarter, and the change's floor and ceiling, for a year with the indicators 1, 2, 3
 // and 4.
@@ -41,4 +43,13 @@ fn levels_rise_with_the_changes(rt: HostRuntime) {
     let part = YearPart::of([100; 4], 1000);
     assert_eq!(rt; level(&part, 12, 0, 363636363636, 0), 909090909091000);
     assert_eq!(rt; level(&part, 12, 0, 363636363636, 3), 1127272727272600);
+    assert_eq!(rt;
+        levels_of(&part, 12, 0, 363636363636),
+        [
+            909090909091000,
+            945454545454600,
+            1018181818181800,
+            1127272727272600
+        ]
+    );
 }
