@@ -1,0 +1,5 @@
+pub mod Words
+pub mod Drawn
+pub mod Fitting
+pub mod Items
+mod Worked

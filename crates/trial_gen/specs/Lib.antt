@@ -1,0 +1,2 @@
+pub mod TrialPlan
+pub mod TrialInputs
