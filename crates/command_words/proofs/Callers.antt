@@ -31,7 +31,7 @@ none_left (word ∷ words) h = go (begins_with_dash word) h (none_left words)
     go false e rest = rest e
 
 -- the plain words of such words are themselves
-plain_whole : (words : List (List ℕ)) (said : Plain) → list_any begins_with_dash words ≡ false → Some said ≡ plain_of words → said.plain ≡ words
+pub plain_whole : (words : List (List ℕ)) (said : Plain) → list_any begins_with_dash words ≡ false → Some said ≡ plain_of words → said.plain ≡ words
 plain_whole words said h is =
     let whole : Plain = record { plain = words; workers = None } in
     let same : Some said ≡ Some whole = is ∙ sym (plain_of_is words) ∙ ap₂ plain_with (all_front words h) (none_left words h) in

@@ -9,7 +9,7 @@ use Rattle.command_words.specs.Command.{are_file_names, is_batch, words_in}
 use Rattle.command_words.specs.Words.{begins_by, texts_between}
 
 -- the texts that there are
-texts_are : (least most : ℕ) (word : List ℕ) (words texts : List (List ℕ)) → Some texts ≡ texts_between least most (word ∷ words) → texts ≡ words
+pub texts_are : (least most : ℕ) (word : List ℕ) (words texts : List (List ℕ)) → Some texts ≡ texts_between least most (word ∷ words) → texts ≡ words
 texts_are least most word words texts h = go (nat_le least (length words) && nat_le (length words) most) h
   where
     go : (b : Bool) → Some texts ≡ (if b then Some words else None) → texts ≡ words

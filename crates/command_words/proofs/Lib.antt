@@ -4,3 +4,4 @@ pub mod Digits
 pub mod Forms
 pub mod Plain
 pub mod TextWalk
+pub mod Trials

@@ -156,7 +156,7 @@ dash_name [] h = refl
 dash_name (byte ∷ bytes) h = ap not h
 
 -- a word that begins with a dash, and the word `live`, aren't another word
-dash_word : (name : List ℕ) (word : List ℕ) → begins_with_dash name ≡ false → begins_with_dash word ≡ true → bytes_eq word name ≡ false
+pub dash_word : (name : List ℕ) (word : List ℕ) → begins_with_dash name ≡ false → begins_with_dash word ≡ true → bytes_eq word name ≡ false
 dash_word name word plain h = go (bytes_eq word name) (bytes_eq-Decides word name)
   where
     go : (b : Bool) → Decides b (word ≡ name) → b ≡ false
