@@ -1,9 +1,9 @@
 -- What is left when all parties were taken back.
-use Rattle.std.proofs.Common.{◌≡◌, ◌∙◌, ap, sym, refl, subst, inl, inr, ⊎_elim, ℕ, zero, suc, ◌+◌, ◌<◌, ◌≤◌, ◌==◌, ◌||◌}
+use Rattle.std.proofs.Common.{◌≡◌, ◌∙◌, ap, sym, refl, subst, ⊎_elim, ℕ, zero, suc, ◌+◌, ◌<◌, ◌≤◌, ◌==◌, ◌||◌}
 use Rattle.std.proofs.Common.{Bool}
-use Rattle.std.proofs.Common.{true, false, cond, List, [], ◌∷◌, ◌++◌, length, map, reverse, Option, Some, None, arith}
-use Rattle.std.proofs.Common.{append-nil, append_assoc, eq-eqb, eqb-true, unwrap_or}
-use Rattle.std.specs.Prelude.{All, filter}
+use Rattle.std.proofs.Common.{true, false, cond, List, [], ◌∷◌, ◌++◌, reverse, Option, Some, None, arith}
+use Rattle.std.proofs.Common.{eq-eqb, eqb-true, unwrap_or}
+use Rattle.std.specs.Prelude.{All}
 use Rattle.std.specs.List.{cons_option, range_with_len}
 use Rattle.std.specs.Option.{option_map}
 use Rattle.std.proofs.lemmas.List.{reverse-append}
@@ -12,8 +12,8 @@ use Rattle.series_tables.specs.Plan.{PlanShape}
 use Rattle.accounts_history.specs.History.{IsLawful, Sent, journal, party_of}
 use Rattle.accounts_history.specs.declared.entry.Entry.{Entry}
 use Rattle.accounts_history.specs.declared.entry.Entry.TheVariants.{Accept, Publish}
-use Rattle.desk_lock.specs.Passes.{IsSameButSeen, account, entries_by, entries_under, is_in, is_named, own}
-use Rattle.desk_lock.proofs.Lists.{named-append, or_either, or_left, or_right, under-append}
+use Rattle.desk_lock.specs.Passes.{IsSameButSeen, account, entries_by, is_in, is_named}
+use Rattle.desk_lock.proofs.Lists.{named-append, or_either, or_left, or_right}
 use Rattle.office.specs.Gathered.{is_among}
 use Rattle.office.specs.Holds.{Known}
 use Rattle.office.specs.Seen.{SentNothing, sent_by}
@@ -22,7 +22,7 @@ use Rattle.compile_workers.specs.Parties.{AreOfDesks, AreServed, Did, HasRun, Ha
 use Rattle.compile_workers.specs.Parties.{ends_in, passes_in, places_with}
 use Rattle.compile_workers.specs.Transcript.{of_party}
 use Rattle.compile_workers.specs.declared.desk.DeskEnd.{DeskEnd}
-use Rattle.compile_workers.proofs.Gathered.{AreAlone, AreSettled, end_grows, parties_of}
+use Rattle.compile_workers.proofs.Gathered.{AreSettled, end_grows}
 
 -- ---- places in the other order
 

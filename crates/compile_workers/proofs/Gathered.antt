@@ -1,6 +1,6 @@
 -- Parties that are taken back: what each was served stays so in the closed history.
-use Rattle.std.proofs.Common.{◌≡◌, ◌≢◌, ◌∙◌, ap, sym, refl, subst, ℕ, suc, ◌+◌, ◌-◌, ◌<◌, ◌≤◌, ◌==◌, Bool, true, false}
-use Rattle.std.proofs.Common.{cond, ◌||◌, List, [], ◌∷◌, ◌++◌, length, map, Option, Some, None, arith, append_assoc}
+use Rattle.std.proofs.Common.{◌≡◌, ◌∙◌, ap, sym, refl, subst, ℕ, ◌==◌, Bool, true, false}
+use Rattle.std.proofs.Common.{cond, ◌||◌, List, [], ◌∷◌, ◌++◌, map, Option, Some, None, append_assoc}
 use Rattle.std.proofs.Common.{append-nil, eq-eqb, ne_eqb}
 use Rattle.std.specs.Prelude.{All, IfSome}
 use Rattle.std.proofs.lemmas.List.Elements.{All-append, All-cons, All-head, All-nil, All-tail, All-weaker}
@@ -10,8 +10,8 @@ use Rattle.line_form.specs.Lines.{TextLine}
 use Rattle.qna_edges.specs.Paper.{Paper}
 use Rattle.accounts_history.specs.History.{IsLawful, Sent, journal, party_of}
 use Rattle.accounts_history.specs.declared.entry.Entry.{Entry}
-use Rattle.desk_lock.specs.Passes.{Account, IsJoined, IsLastPass, IsSameButSeen, account, entries_by, entries_under}
-use Rattle.desk_lock.specs.Passes.{is_in, is_named, own}
+use Rattle.desk_lock.specs.Passes.{Account, IsJoined, account, entries_by, entries_under}
+use Rattle.desk_lock.specs.Passes.{is_in, own}
 use Rattle.desk_lock.proofs.Lists.{or_none, prefix_trans, under-append}
 use Rattle.office.specs.Holds.{Known}
 use Rattle.office.specs.Seen.{SentNothing}

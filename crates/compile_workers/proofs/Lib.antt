@@ -2,6 +2,7 @@ pub mod Journals
 pub mod Stability
 pub mod Steps
 pub mod Writing
+pub mod Waiting
 pub mod LineAnswers
 pub mod Reading
 pub mod Desks

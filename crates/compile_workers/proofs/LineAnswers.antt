@@ -3,8 +3,7 @@ use Rattle.std.proofs.Common.{◌≡◌, ◌∙◌, ap, sym, refl, subst, inl, i
 use Rattle.std.proofs.Common.{List}
 use Rattle.std.proofs.Common.{length, take, Option, Some, None, Result, Ok, Err}
 use Rattle.std.specs.Prelude.{codes, decimal, not, slice_get}
-use Rattle.qna_edges.specs.Paper.{Paper, Prints}
-use Rattle.qna_edges.specs.declared.refused.Refused.{Refused}
+use Rattle.qna_base.specs.declared.Memory.{Memory}
 use Rattle.series_tables.specs.Plan.{PlanShape, item_with_name}
 use Rattle.series_tables.specs.declared.input.Input.{Input}
 use Rattle.line_form.specs.Fields.{record_of}
@@ -20,6 +19,7 @@ use Rattle.input_rules.specs.declared.lines.Cause.TheVariants.{Form, Full, Long,
 use Rattle.node_compile.specs.Release.{compilation}
 use Rattle.node_compile.specs.Table.{Table}
 use Rattle.release_print.specs.Certificate.{certificate_text}
+use Rattle.release_print.specs.Part.{Appends}
 use Rattle.release_print.specs.Release.{node_text, release_text}
 use Rattle.qna_parts.specs.StatusLine.{named_line}
 use Rattle.accounts_history.specs.History.{IsLawful, front_of, journal, most_inputs}
@@ -29,11 +29,12 @@ use Rattle.office.specs.Holds.{Known}
 use Rattle.office.specs.Seen.{MadeNothing, SentNothing, SentOne, released}
 use Rattle.office.proofs.Seen.{made_sent}
 use Rattle.compile_workers.specs.Served.{certificate_block, inputs_in, item_block, release_block, text_or_none}
-use Rattle.compile_workers.specs.Serving.{Asks, IsRefused, ServesLine, position}
+use Rattle.compile_workers.specs.Answering.{AnswersLine, reached}
+use Rattle.compile_workers.specs.Serving.{Asks, IsRefused}
 use Rattle.compile_workers.specs.Transcript.{refused, accepted, shown, item_shown, certificate_shown}
 use Rattle.compile_workers.specs.Transcript.{AnswersInput, AnswersName, HasNoneAfter, question_of}
 use Rattle.compile_workers.proofs.Steps.{accepted_more, answered_grows, block_more, refused_more, synced_more}
-use Rattle.compile_workers.proofs.Writing.{serves_by}
+use Rattle.compile_workers.proofs.Waiting.{answers_by}
 
 -- ---- blocks
 
@@ -74,70 +75,70 @@ certificate_is plan pass leaf front table label shows =
 
 -- ---- answers
 
-module _ (plan : PlanShape) (party : ℕ) (line : TextLine) (old new : Paper) (own : ℕ) (before seen : List Entry)
-    (said : Result (Unit {0}) Refused) where
+module _ (plan : PlanShape) (party : ℕ) (line : TextLine) (old new : List ℕ) (own : ℕ) (before seen : List Entry)
+    (said : Result (Unit {0}) Memory) where
   -- the published front
   pub serve_synced : (front : ℕ) → IsLawful plan seen → SentNothing party before seen → Asks plan line sync
-      → front ≡ front_of seen → own ≤ front → Prints old new (named_line (codes "synced") (decimal front)) said
-      → ServesLine plan party line (position old own before) (position new own seen) said
-  serve_synced front lawful grew asks front_is reached printed =
-      serves_by plan party line (position old own before) (position new own seen)
+      → front ≡ front_of seen → own ≤ front → Appends said old new (named_line (codes "synced") (decimal front))
+      → AnswersLine plan party line (reached old own before) (reached new own seen) said
+  serve_synced front lawful grew asks front_is covers appends =
+      answers_by plan party line (reached old own before) (reached new own seen)
       (named_line (codes "synced") (decimal front)) said
-      (λ lines text s. synced_more plan party lines line text own front seen asks lawful front_is reached
+      (λ lines text s. synced_more plan party lines line text own front seen asks lawful front_is covers
       (answered_grows plan party lines text own before seen lawful grew s))
-      printed
+      appends
 
   -- an input that is accepted
   pub serve_accepted : (s : SpelledInput) (i : Input) (number : ℕ) → IsLawful plan seen
       → SentOne party i number before seen → Asks plan line (input s)
       → judgement plan s.kind s.name s.period s.value ≡ Ok i
-      → Prints old new (named_line (codes "ok") (decimal number)) said
-      → ServesLine plan party line (position old own before) (position new number seen) said
-  serve_accepted s i number lawful one asks judged printed =
-      serves_by plan party line (position old own before) (position new number seen)
+      → Appends said old new (named_line (codes "ok") (decimal number))
+      → AnswersLine plan party line (reached old own before) (reached new number seen) said
+  serve_accepted s i number lawful one asks judged appends =
+      answers_by plan party line (reached old own before) (reached new number seen)
       (named_line (codes "ok") (decimal number)) said
       (λ lines text h. accepted_more plan party lines line text own number i before seen (Ok (input s)) asks
       (λ at above next. subst
       (λ (j : Result Input Refusal). AnswersInput party (journal seen) at j (accepted number)) (sym judged)
       (inl (number, refl, above, next)))
       lawful one h)
-      printed
+      appends
 
   -- an input for which the journal has no room
   pub serve_full : (s : SpelledInput) (i : Input) → IsLawful plan seen → SentNothing party before seen
       → length (journal seen) ≡ most_inputs → Asks plan line (input s)
       → judgement plan s.kind s.name s.period s.value ≡ Ok i
-      → Prints old new (named_line (codes "no") (cause_text Full)) said
-      → ServesLine plan party line (position old own before) (position new own seen) said
-  serve_full s i lawful grew full asks judged printed =
-      serves_by plan party line (position old own before) (position new own seen)
+      → Appends said old new (named_line (codes "no") (cause_text Full))
+      → AnswersLine plan party line (reached old own before) (reached new own seen) said
+  serve_full s i lawful grew full asks judged appends =
+      answers_by plan party line (reached old own before) (reached new own seen)
       (named_line (codes "no") (cause_text Full)) said
       (λ lines text h. refused_more plan party lines line text own seen (Ok (input s)) Full asks
       (λ at is none. subst
       (λ (j : Result Input Refusal). AnswersInput party (journal seen) at j (refused Full)) (sym judged)
       (inr (refl, full, subst (λ (k : ℕ). HasNoneAfter party k (journal seen)) (sym is) none)))
       (answered_grows plan party lines text own before seen lawful grew h))
-      printed
+      appends
 
   -- a whole release
   pub serve_release : (front : ℕ) → IsLawful plan seen → MadeNothing party before seen → Asks plan line release
-      → front ≡ front_of seen → Prints old new (release_block plan (inputs_in (journal seen)) front) said
-      → ServesLine plan party line (position old own before) (position new own seen) said
-  serve_release front lawful made asks front_is printed =
-      serves_by plan party line (position old own before) (position new own seen)
+      → front ≡ front_of seen → Appends said old new (release_block plan (inputs_in (journal seen)) front)
+      → AnswersLine plan party line (reached old own before) (reached new own seen) said
+  serve_release front lawful made asks front_is appends =
+      answers_by plan party line (reached old own before) (reached new own seen)
       (release_block plan (inputs_in (journal seen)) front) said
       (λ lines text h. block_more plan party lines line text own front seen (Ok release) (shown front) asks
       (λ at may. (front, refl, may)) (λ at. refl) lawful front_is
       (answered_grows plan party lines text own before seen lawful (made_sent party before seen made) h))
-      printed
+      appends
 
   -- the block of an item
   pub serve_item : (name : List ℕ) (item front : ℕ) → IsLawful plan seen → MadeNothing party before seen
       → Asks plan line (release_of name) → item_with_name plan name ≡ Some item → front ≡ front_of seen
-      → Prints old new (item_block plan (inputs_in (journal seen)) front item) said
-      → ServesLine plan party line (position old own before) (position new own seen) said
-  serve_item name item front lawful made asks named front_is printed =
-      serves_by plan party line (position old own before) (position new own seen)
+      → Appends said old new (item_block plan (inputs_in (journal seen)) front item)
+      → AnswersLine plan party line (reached old own before) (reached new own seen) said
+  serve_item name item front lawful made asks named front_is appends =
+      answers_by plan party line (reached old own before) (reached new own seen)
       (item_block plan (inputs_in (journal seen)) front item) said
       (λ lines text h. block_more plan party lines line text own front seen (Ok (release_of name))
       (item_shown front item)
@@ -147,15 +148,15 @@ module _ (plan : PlanShape) (party : ℕ) (line : TextLine) (old new : Paper) (o
       (front, refl, may))
       (λ at. refl) lawful front_is
       (answered_grows plan party lines text own before seen lawful (made_sent party before seen made) h))
-      printed
+      appends
 
   -- the certificate of a leaf
   pub serve_certificate : (name : List ℕ) (leaf front : ℕ) → IsLawful plan seen → MadeNothing party before seen
       → Asks plan line (certificate_of name) → leaf_with_name plan name ≡ Some leaf → front ≡ front_of seen
-      → Prints old new (certificate_block plan (inputs_in (journal seen)) front leaf) said
-      → ServesLine plan party line (position old own before) (position new own seen) said
-  serve_certificate name leaf front lawful made asks named front_is printed =
-      serves_by plan party line (position old own before) (position new own seen)
+      → Appends said old new (certificate_block plan (inputs_in (journal seen)) front leaf)
+      → AnswersLine plan party line (reached old own before) (reached new own seen) said
+  serve_certificate name leaf front lawful made asks named front_is appends =
+      answers_by plan party line (reached old own before) (reached new own seen)
       (certificate_block plan (inputs_in (journal seen)) front leaf) said
       (λ lines text h. block_more plan party lines line text own front seen (Ok (certificate_of name))
       (certificate_shown front leaf) asks
@@ -164,20 +165,20 @@ module _ (plan : PlanShape) (party : ℕ) (line : TextLine) (old new : Paper) (o
       (sym named) (front, refl, may))
       (λ at. refl) lawful front_is
       (answered_grows plan party lines text own before seen lawful (made_sent party before seen made) h))
-      printed
+      appends
 
 -- a line that is refused
-pub serve_refusal : (plan : PlanShape) (party : ℕ) (line : TextLine) (old new : Paper) (own : ℕ) (seen : List Entry)
-    (said : Result (Unit {0}) Refused) (cause : Cause) → IsRefused plan line cause
-    → Prints old new (named_line (codes "no") (cause_text cause)) said
-    → ServesLine plan party line (position old own seen) (position new own seen) said
-serve_refusal plan party line old new own seen said cause refusal printed =
-    serves_by plan party line (position old own seen) (position new own seen)
+pub serve_refusal : (plan : PlanShape) (party : ℕ) (line : TextLine) (old new : List ℕ) (own : ℕ) (seen : List Entry)
+    (said : Result (Unit {0}) Memory) (cause : Cause) → IsRefused plan line cause
+    → Appends said old new (named_line (codes "no") (cause_text cause))
+    → AnswersLine plan party line (reached old own seen) (reached new own seen) said
+serve_refusal plan party line old new own seen said cause refusal appends =
+    answers_by plan party line (reached old own seen) (reached new own seen)
     (named_line (codes "no") (cause_text cause))
     said
     (λ lines text h. refused_more plan party lines line text own seen refusal.0 cause refusal.1
     (λ at is none. refusal.2 party (journal seen) at) h)
-    printed
+    appends
 
 -- ---- refusals, whatever the journal
 

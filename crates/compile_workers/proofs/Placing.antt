@@ -1,5 +1,5 @@
 -- Parties that are put into their places, and taken back.
-use Rattle.std.proofs.Common.{◌≡◌, ◌∙◌, ap, sym, refl, subst, ℕ, zero, suc, ◌+◌, ◌<◌, ◌≤◌, true, List, [], ◌∷◌, ◌++◌}
+use Rattle.std.proofs.Common.{◌≡◌, ◌∙◌, ap, sym, refl, subst, ℕ, zero, suc, ◌+◌, ◌<◌, ◌≤◌, List, [], ◌∷◌, ◌++◌}
 use Rattle.std.proofs.Common.{length}
 use Rattle.std.proofs.Common.{map, reverse, Option, Some, None, arith, append_assoc, append-nil, length-append}
 use Rattle.std.specs.Prelude.{All, IsSome, remove, slice_index_or}

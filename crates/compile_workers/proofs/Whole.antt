@@ -3,7 +3,7 @@ use Rattle.std.proofs.Common.{◌≡◌, ◌∙◌, ap, sym, refl, subst, ℕ, z
 use Rattle.std.proofs.Common.{false, List, [], ◌∷◌, ◌++◌, length, map, reverse, Option, Some, None, arith, append-nil}
 use Rattle.std.proofs.Common.{cond, eq-eqb, eqb-true, ne_eqb, unwrap_or}
 use Rattle.std.specs.Prelude.{All, IsSome, filter}
-use Rattle.std.specs.List.{cons_option, filter_map, range_with_len}
+use Rattle.std.specs.List.{cons_option, range_with_len}
 use Rattle.std.specs.Option.{option_map}
 use Rattle.std.proofs.lemmas.List.{reverse-append, reverse-reverse}
 use Rattle.std.proofs.lemmas.List.Elements.{All-append, All-cons, All-head, All-nil, All-tail}

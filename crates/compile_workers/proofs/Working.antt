@@ -1,5 +1,5 @@
 -- What a worker has seen after each turn.
-use Rattle.std.proofs.Common.{◌≡◌, ◌∙◌, ap, sym, List}
+use Rattle.std.proofs.Common.{◌≡◌, ◌∙◌, ap, sym}
 use mathlib.Core.List.{IsPrefix}
 use Rattle.accounts_history.specs.History.{party_of}
 use Rattle.desk_lock.specs.Passes.{IsSameButSeen, entries_by, own}

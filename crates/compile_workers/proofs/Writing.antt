@@ -1,24 +1,21 @@
 -- What a sink has after lines were answered.
-use Rattle.std.proofs.Common.{◌≡◌, ◌∙◌, ap, sym, refl, subst, ℕ, List, [], ◌∷◌, ◌++◌, take, drop}
-use Rattle.std.proofs.Common.{Result, Ok, Err, arith, append_assoc, append-nil}
-use Rattle.std.specs.Prelude.{OnOk, IsErrOf}
-use Rattle.std.proofs.lemmas.List.{take-append-drop}
+use Rattle.std.proofs.Common.{◌≡◌, ◌∙◌, ap, sym, refl, subst, ℕ, List, [], ◌++◌}
+use Rattle.std.proofs.Common.{Result, Ok, arith, append_assoc, append-nil}
+use Rattle.std.specs.Prelude.{IsErrOf}
 use mathlib.Core.List.{IsPrefix}
 use Rattle.qna_edges.specs.Count.{Rose}
-use Rattle.qna_edges.specs.Paper.{BreaksOff, Paper, Prints, grown}
+use Rattle.qna_edges.specs.Paper.{Paper, Prints, grown}
 use Rattle.qna_edges.specs.declared.refused.Refused.{Refused}
 use Rattle.qna_edges.specs.declared.refused.Refused.TheVariants.{Failed}
-use Rattle.qna_edges.proofs.Paper.{grown-grown, written_printed}
+use Rattle.qna_edges.proofs.Paper.{written_printed}
 use Rattle.series_tables.specs.Plan.{PlanShape}
 use Rattle.line_form.specs.Lines.{Cutting, TextLine}
-use Rattle.accounts_history.specs.History.{IsLawful, Sent, journal}
+use Rattle.accounts_history.specs.History.{Sent, journal}
 use Rattle.accounts_history.specs.declared.entry.Entry.{Entry}
-use Rattle.office.specs.Seen.{SentNothing}
 use Rattle.compile_workers.specs.Served.{IsServed}
 use Rattle.compile_workers.specs.Serving.{HasAdded, HasPart, HasServed, HasWhole, IsAnswered, IsSaid, Position}
-use Rattle.compile_workers.specs.Serving.{Serves, ServesEnd, ServesLine, ServesPiece, position}
+use Rattle.compile_workers.specs.Serving.{ServesEnd, ServesPiece}
 use Rattle.compile_workers.specs.Transcript.{HasNoneAfter}
-use Rattle.compile_workers.proofs.Steps.{answered_grows}
 
 -- ---- papers
 
@@ -33,21 +30,6 @@ added_whole old new text is =
           ∙ ap (λ (n : ℕ). record (grown old text) { faults = new.faults; wants = n }) (sym wants);
       faults = omega (arith, faults);
       wants = omega (arith, wants);
-    }
-
--- a text that was added whole, and then another that was broken off
-added_broken : (old mid new : Paper) (text more : List ℕ) → mid ≡ grown old text → (off : BreaksOff mid new more)
-    → HasAdded old new (text ++ take off.part.0 more)
-added_broken old mid new text more first off =
-    let faults : mid.faults ≡ old.faults = ap (λ (p : Paper). p.faults) first in
-    let wants : mid.wants ≡ old.wants = ap (λ (p : Paper). p.wants) first in
-    record {
-      added = off.part.2
-          ∙ ap (λ (p : Paper). record (grown p (take off.part.0 more)) { faults = new.faults; wants = new.wants }) first
-          ∙ ap (λ (p : Paper). record p { faults = new.faults; wants = new.wants })
-          (grown-grown old text (take off.part.0 more));
-      faults = omega (arith, off.faults, faults);
-      wants = omega (arith, off.wants, wants);
     }
 
 -- ---- what an answer says of its sink
@@ -155,108 +137,6 @@ module _ (plan : PlanShape) (party : ℕ) where
     served = served_of lines h.text at.own at.seen h.served;
     written = h.written;
   }
-
-  -- others go on, and nothing is written
-  pub has_grown : (lines : List TextLine) (origin paper : Paper) (own : ℕ) (before seen : List Entry)
-      → IsLawful plan seen → SentNothing party before seen
-      → HasServed plan party lines origin (position paper own before)
-      → HasServed plan party lines origin (position paper own seen)
-  has_grown lines origin paper own before seen lawful grew h = record {
-    text = h.text;
-    served = answered_grows plan party lines h.text own before seen lawful grew h.served;
-    written = h.written;
-  }
-
-  -- an answer is written, or broken off
-  pub serves_by : (line : TextLine) (old new : Position) (answer : List ℕ) (said : Result (Unit {0}) Refused)
-      → ((lines : List TextLine) (text : List ℕ) → IsAnswered plan party lines text old.own old.seen
-      → IsAnswered plan party (lines ++ line ∷ []) (text ++ answer) new.own new.seen)
-      → Prints old.paper new.paper answer said → ServesLine plan party line old new said
-  serves_by line old new answer (Ok done) step printed lines origin h =
-      let s = step lines h.text h.served in
-      let served : HasServed plan party (lines ++ line ∷ []) origin new = record {
-        text = h.text ++ answer;
-        served = s;
-        written = printed.ok ∙ ap (λ (p : Paper). grown p answer) h.written ∙ grown-grown origin h.text answer;
-      } in
-      (served, part_whole (lines ++ line ∷ []) origin new served)
-  serves_by line old new answer (Err refused) step printed lines origin h =
-      let s = step lines h.text h.served in
-      let k : ℕ = printed.cut.part.0 in (
-        tt,
-        subst (λ (w : List TextLine). HasPart plan party w origin new.paper (journal new.seen))
-            (append-nil (lines ++ line ∷ []))
-            (part_of (lines ++ line ∷ []) [] (h.text ++ answer)
-            (h.text ++ take k answer) new.own new.seen origin new.paper
-            s (
-              drop k answer,
-              append_assoc h.text (take k answer) (drop k answer)
-                  ∙ ap (λ (w : List ℕ). h.text ++ w) (take-append-drop k answer),
-            )
-            (added_broken origin old.paper new.paper h.text answer h.written printed.cut)),
-      )
-
-  -- no answer is written, though others go on
-  pub serves_nothing : (line : TextLine) (paper : Paper) (own : ℕ) (before seen : List Entry) (refused : Refused)
-      → IsLawful plan seen → SentNothing party before seen
-      → ServesLine plan party line (position paper own before) (position paper own seen) (Err refused)
-  serves_nothing line paper own before seen refused lawful grew lines origin h = (
-    tt,
-    part_before lines (line ∷ []) origin (position paper own seen)
-        (has_grown lines origin paper own before seen lawful grew h),
-  )
-
-  -- nothing was done
-  pub serves_idle : (more : List TextLine) (at : Position) (refused : Refused)
-      → Serves plan party more at at (Err refused)
-  serves_idle more at refused lines origin h = (tt, part_before lines more origin at h)
-
-  -- a line that is passed over
-  pub serves_over : (line : TextLine) (at : Position)
-      → ((lines : List TextLine) (text : List ℕ) → IsAnswered plan party lines text at.own at.seen
-      → IsAnswered plan party (lines ++ line ∷ []) text at.own at.seen)
-      → ServesLine plan party line at at (Ok tt)
-  serves_over line at step lines origin h =
-      let served : HasServed plan party (lines ++ line ∷ []) origin at =
-      record { text = h.text; served = step lines h.text h.served; written = h.written } in
-      (served, part_whole (lines ++ line ∷ []) origin at served)
-
-  -- no line is answered yet
-  pub serves_none : (at : Position) → Serves plan party [] at at (Ok tt)
-  serves_none at lines origin h = (
-    subst (λ (w : List TextLine). HasServed plan party w origin at) (sym (append-nil lines)) h,
-    part_before lines [] origin at h,
-  )
-
-  -- one line more, of a pass with the same party
-  pub serves_then : (q : ℕ) (more : List TextLine) (line : TextLine) (old mid new : Position)
-      (said : Result (Unit {0}) Refused) → q ≡ party → Serves plan party more old mid (Ok tt)
-      → ServesLine plan q line mid new said → Serves plan party (more ++ line ∷ []) old new said
-  serves_then q more line old mid new said same first then lines origin h =
-      let next : ServesLine plan party line mid new said =
-      subst (λ (p : ℕ). ServesLine plan p line mid new said) same then in
-      let two = next (lines ++ more) origin (first lines origin h).0 in
-      let joined : (lines ++ more) ++ line ∷ [] ≡ lines ++ (more ++ line ∷ []) = append_assoc lines more
-      (line ∷ []) in (
-        subst (λ (w : List TextLine). OnOk said (HasServed plan party w origin new)) joined two.0,
-        subst (λ (w : List TextLine). HasPart plan party w origin new.paper (journal new.seen)) joined two.1,
-      )
-
-  -- the answering broke off, with some lines that wait
-  pub serves_broken : (more rest all : List TextLine) (old new : Position) (refused : Refused) → all ≡ more ++ rest
-      → Serves plan party more old new (Err refused) → Serves plan party all old new (Err refused)
-  serves_broken more rest all old new refused is had lines origin h = (
-    tt,
-    subst (λ (w : List TextLine). HasPart plan party w origin new.paper (journal new.seen))
-        (append_assoc lines more rest ∙ ap (λ (w : List TextLine). lines ++ w) (sym is))
-        (part_longer (lines ++ more) rest origin new.paper (journal new.seen) (had lines origin h).1),
-  )
-
-  -- the same of equal lines
-  pub serves_same : (more all : List TextLine) (old new : Position) (said : Result (Unit {0}) Refused) → all ≡ more
-      → Serves plan party more old new said → Serves plan party all old new said
-  serves_same more all old new said is had =
-      subst (λ (w : List TextLine). Serves plan party w old new said) (sym is) had
 
 -- ---- the same of an equal party and an equal answer
 

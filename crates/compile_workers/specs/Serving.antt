@@ -1,5 +1,5 @@
 -- How far a desk is served while its lines come. It is this product's own.
-use Rattle.std.specs.Prelude.{◌≡◌, ℕ, ◌≤◌, List, [], ◌∷◌, ◌++◌, length, Some, Result, Ok, OnOk, IsErrOf}
+use Rattle.std.specs.Prelude.{◌≡◌, ℕ, ◌≤◌, List, ◌++◌, length, Some, Result, Ok, OnOk, IsErrOf}
 use Rattle.line_form.specs.Lines.{TextLine, Cutting, IsCutOf, ended_lines, lines_of}
 use Rattle.series_tables.specs.Plan.{PlanShape}
 use Rattle.input_rules.specs.Requests.{Asked}
@@ -77,10 +77,6 @@ Serves plan party more old new said =
     (lines : List TextLine) (origin : Paper) → HasServed plan party lines origin old
     → OnOk said (HasServed plan party (lines ++ more) origin new)
     × HasPart plan party (lines ++ more) origin new.paper (journal new.seen)
-
--- one more line was answered
-abbrev pub ServesLine : PlanShape → ℕ → TextLine → Position → Position → Result (Unit {0}) Refused → Type 0
-ServesLine plan party line = Serves plan party (line ∷ [])
 
 -- the line asks for this
 abbrev pub Asks : PlanShape → TextLine → Asked → Type 0

@@ -1,56 +1,102 @@
-//! The short answers to a line. They are written without memory, so no want of it comes between an accepted input and
-//! its answer.
+//! A desk's answers. They wait in memory that is there before a line is answered, so that no want of it comes between
+//! an accepted input and its answer, and they are written before more of the desk's input is asked for.
 
-ghost use Rattle.std.specs.Prelude.{◌++◌, codes, decimal};
+ghost use Rattle.std.specs.Prelude.{◌≡◌, [], codes, decimal, Err, IfOk, OnErr};
+ghost use Rattle.compile_workers.specs.Answering.{HasBegun, HasMoved};
+ghost use Rattle.compile_workers.specs.Serving.{IsSaid};
 ghost use Rattle.input_rules.specs.Lines.{cause_text};
 ghost use Rattle.qna_edges.specs.Paper.{Prints};
 ghost use Rattle.qna_parts.specs.StatusLine.{named_line};
+ghost use Rattle.release_print.specs.Part.{Appends};
 
 use input_rules::Cause;
 use itoa::Buffer;
+use qna_base::Memory;
 use qna_edges::{Refused, Sink, write_all};
-use qna_parts::tell;
+use std::alloc::Global;
+
+/// How many bytes there is room for before a line is answered, at least.
+const ROOM: usize = 8192;
+
+/// From how many bytes on the answers that wait are written.
+const MANY: usize = 4096;
+
+/// No answers yet, and room for those that wait.
+pub(crate) fn no_answers(alloc: Global) -> Result<Vec<u8>, Memory>
+    ensures { IfOk result (λ answers. answers.items ≡ []) }
+{
+    let answers = Vec::with_capacity(alloc, ROOM)?;
+    Ok(answers)
+}
 
 /// Answers with the number of an accepted input: `ok,n`.
-pub(crate) fn say_accepted<K: Sink>(sink: &mut K, number: u64) -> Result<(), Refused>
-    ensures { Prints (K.paper sink.old) (K.paper sink.new)
-        (named_line (codes "ok") (decimal number)) result }
+pub(crate) fn say_accepted(answers: &mut Vec<u8>, number: u64) -> Result<(), Memory>
+    ensures { Appends result answers.old.items answers.new.items
+        (named_line (codes "ok") (decimal number)) }
 {
     let mut buffer = Buffer::new();
-    tell(sink, "ok", buffer.format(number))
+    say(answers, b"ok", buffer.format(number).as_bytes())
 }
 
 /// Answers with the published front: `synced,n`.
-pub(crate) fn say_synced<K: Sink>(sink: &mut K, front: u64) -> Result<(), Refused>
-    ensures { Prints (K.paper sink.old) (K.paper sink.new)
-        (named_line (codes "synced") (decimal front)) result }
+pub(crate) fn say_synced(answers: &mut Vec<u8>, front: u64) -> Result<(), Memory>
+    ensures { Appends result answers.old.items answers.new.items
+        (named_line (codes "synced") (decimal front)) }
 {
     let mut buffer = Buffer::new();
-    tell(sink, "synced", buffer.format(front))
+    say(answers, b"synced", buffer.format(front).as_bytes())
 }
 
 /// Answers why a line is refused: `no,CAUSE`.
-pub(crate) fn say_refused<K: Sink>(sink: &mut K, cause: Cause) -> Result<(), Refused>
-    ensures { Prints (K.paper sink.old) (K.paper sink.new)
-        (named_line (codes "no") (cause_text cause)) result }
+pub(crate) fn say_refused(answers: &mut Vec<u8>, cause: Cause) -> Result<(), Memory>
+    ensures { Appends result answers.old.items answers.new.items
+        (named_line (codes "no") (cause_text cause)) }
 {
-    say(sink, b"no", cause.text())
+    say(answers, b"no", cause.text())
 }
 
-/// Writes the line `WORD,NAME`.
-#[tactic(auto, using(qna_edges::proofs::Paper::printed))]
-fn say<K: Sink>(sink: &mut K, word: &[u8], name: &[u8]) -> Result<(), Refused>
-    ensures { Prints (K.paper sink.old) (K.paper sink.new) (named_line word.now name.now) result }
+/// Appends the line `WORD,NAME`.
+fn say(answers: &mut Vec<u8>, word: &[u8], name: &[u8]) -> Result<(), Memory>
+    ensures { Appends result answers.old.items answers.new.items (named_line word.now name.now) }
 {
-    write_both(sink, word, b",")?;
-    write_both(sink, name, b"\n")
+    answers.extend_from_slice(word)?;
+    answers.push(b',')?;
+    answers.extend_from_slice(name)?;
+    answers.push(b'\n')?;
+    Ok(())
 }
 
-/// Writes one text and then another.
-#[tactic(auto, using(qna_edges::proofs::Paper::printed))]
-fn write_both<K: Sink>(sink: &mut K, first: &[u8], second: &[u8]) -> Result<(), Refused>
-    ensures { Prints (K.paper sink.old) (K.paper sink.new) (first.now ++ second.now) result }
+/// Writes the answers that wait. None waits any more.
+pub(crate) fn write_out<K: Sink>(answers: &mut Vec<u8>, sink: &mut K) -> Result<(), Refused>
+    ensures written { Prints (K.paper sink.old) (K.paper sink.new) answers.old.items result }
+    ensures none { answers.new.items ≡ [] }
 {
-    write_all(sink, first)?;
-    write_all(sink, second)
+    let written = write_all(sink, answers);
+    answers.clear();
+    written
+}
+
+/// Writes the answers that wait, where they are many.
+pub(crate) fn write_many<K: Sink>(answers: &mut Vec<u8>, sink: &mut K) -> Result<(), Refused>
+    ensures moved { HasMoved (K.paper sink.old) (K.paper sink.new)
+        answers.old.items answers.new.items result }
+    ensures none { OnErr result (answers.new.items ≡ []) }
+    ensures said { IsSaid (K.paper sink.old) (K.paper sink.new) result }
+{
+    if answers.len() < MANY {
+        return Ok(());
+    }
+    write_out(answers, sink)
+}
+
+/// Writes the answers that wait where memory is wanted for the next, and tells why the desk ends.
+pub(crate) fn break_off<K: Sink>(answers: &mut Vec<u8>, sink: &mut K) -> Refused
+    ensures begun { HasBegun (K.paper sink.old) (K.paper sink.new) answers.old.items }
+    ensures none { answers.new.items ≡ [] }
+    ensures said { IsSaid (K.paper sink.old) (K.paper sink.new) (Err result) }
+{
+    match write_out(answers, sink) {
+        Ok(()) => Refused::Memory,
+        Err(refused) => refused,
+    }
 }

@@ -9,6 +9,7 @@ ghost use Rattle.desk_lock.specs.Passes.{IsPassOf, IsSameButSeen};
 ghost use Rattle.office.specs.Seen.{sent_by};
 ghost use Rattle.qna_edges.specs.Stock.{GivesBytes, ReadFails};
 
+use crate::answers::no_answers;
 use crate::lines::serve_waiting;
 use crate::service::{Progress, Service};
 use desk_lock::Pass;
@@ -89,12 +90,14 @@ fn serve_piece<G: Gate, K: Sink, L: Ledger, R: Wait>(
     progress: Progress,
     lines: &mut Lines,
     piece: &[u8],
+    answers: &mut Vec<u8>,
     sink: &mut K,
     steps: &mut Steps<L>,
 ) -> (Progress, Result<(), Refused>)
     requires serving { IsServing service.now.office.now service.now.plan.now
         progress.own progress.pass }
     requires goes_on { lines.old.ended ≡ false }
+    requires none { answers.old.items ≡ [] }
     ensures pass { IsSameButSeen progress.pass result.0.pass }
     ensures known { result.0.own ≤ length (journal result.0.pass.seen) }
     ensures goes_on { OnOk result.1 (lines.new.ended ≡ false) }
@@ -102,11 +105,12 @@ fn serve_piece<G: Gate, K: Sink, L: Ledger, R: Wait>(
         (position (K.paper sink.old) progress.own progress.pass.seen)
         (position (K.paper sink.new) result.0.own result.0.pass.seen) piece.now result.1 }
     ensures said { IsSaid (K.paper sink.old) (K.paper sink.new) result.1 }
+    ensures none { answers.new.items ≡ [] }
 {
     if let Err(Memory) = lines.feed(piece) {
         return (progress, Err(Refused::Memory));
     }
-    serve_waiting(rt, service, progress, lines, sink, steps)
+    serve_waiting(rt, service, progress, lines, answers, sink, steps)
 }
 
 /// Answers the last line of an input, if no line feed ends it.
@@ -115,22 +119,25 @@ fn serve_end<G: Gate, K: Sink, L: Ledger, R: Wait>(
     service: &Service<G>,
     progress: Progress,
     lines: &mut Lines,
+    answers: &mut Vec<u8>,
     sink: &mut K,
     steps: &mut Steps<L>,
 ) -> (Progress, Result<(), Refused>)
     requires serving { IsServing service.now.office.now service.now.plan.now
         progress.own progress.pass }
     requires goes_on { lines.old.ended ≡ false }
+    requires none { answers.old.items ≡ [] }
     ensures pass { IsSameButSeen progress.pass result.0.pass }
     ensures serves { ServesEnd service.now.plan.now progress.pass.party lines.old
         (position (K.paper sink.old) progress.own progress.pass.seen)
         (position (K.paper sink.new) result.0.own result.0.pass.seen) result.1 }
     ensures said { IsSaid (K.paper sink.old) (K.paper sink.new) result.1 }
+    ensures none { answers.new.items ≡ [] }
 {
     if let Err(Memory) = lines.finish() {
         return (progress, Err(Refused::Memory));
     }
-    serve_waiting(rt, service, progress, lines, sink, steps)
+    serve_waiting(rt, service, progress, lines, answers, sink, steps)
 }
 
 /// Serves a desk, whose pass has sent nothing yet, and counts it as ended: each line of the source that isn't passed
@@ -199,6 +206,9 @@ fn serve_source<L: Ledger, S: Source, K: Sink, G: Gate, R: Wait>(
     let Ok(mut lines) = Lines::new(service.alloc) else {
         return (pass, DeskEnd::Memory);
     };
+    let Ok(mut answers) = no_answers(service.alloc) else {
+        return (pass, DeskEnd::Memory);
+    };
     let mut steps = Steps::<L>::open(blank);
     let mut progress = Progress { pass, own: 0 };
     let mut buffer = [0; PIECE];
@@ -206,7 +216,15 @@ fn serve_source<L: Ledger, S: Source, K: Sink, G: Gate, R: Wait>(
     'reading: loop {
         match read_piece(source, &mut buffer, size) {
             Ok(0) => {
-                let (last, said) = serve_end(rt, service, progress, &mut lines, sink, &mut steps);
+                let (last, said) = serve_end(
+                    rt,
+                    service,
+                    progress,
+                    &mut lines,
+                    &mut answers,
+                    sink,
+                    &mut steps,
+                );
                 if let Err(refused) = said {
                     return (last.pass, end_of(refused));
                 }
@@ -218,7 +236,14 @@ fn serve_source<L: Ledger, S: Source, K: Sink, G: Gate, R: Wait>(
                 }
                 let piece = &buffer[..count];
                 let (next, said) = serve_piece(
-                    rt, service, progress, &mut lines, piece, sink, &mut steps,
+                    rt,
+                    service,
+                    progress,
+                    &mut lines,
+                    piece,
+                    &mut answers,
+                    sink,
+                    &mut steps,
                 );
                 if let Err(refused) = said {
                     return (next.pass, end_of(refused));

@@ -2,7 +2,8 @@
 
 ghost use Rattle.std.specs.Prelude.{◌≡◌, ◌≤◌, Ok, length};
 ghost use Rattle.accounts_history.specs.History.{journal};
-ghost use Rattle.compile_workers.specs.Serving.{Asks, IsRefused, IsSaid, IsServing, ServesLine, position};
+ghost use Rattle.compile_workers.specs.Answering.{AnswersLine, reached};
+ghost use Rattle.compile_workers.specs.Serving.{Asks, IsRefused, IsServing};
 ghost use Rattle.desk_lock.specs.Passes.{IsSameButSeen};
 ghost use Rattle.input_rules.specs.Judgement.{judgement};
 ghost use Rattle.input_rules.specs.Requests.{input as asked_input, certificate_of, release, release_of, sync};
@@ -16,7 +17,7 @@ use input_rules::{Cause, LineInput, leaf_with_name};
 use line_form::Line;
 use office::{CoreBook, Office, Submitted};
 use qna_base::{Memory, Steps};
-use qna_edges::{Gate, Place, Refused, Sink, write_all};
+use qna_edges::{Gate, Place};
 use release_print::{print_cert, print_node, print_release};
 use series_tables::{Input, Plan};
 use std::alloc::Global;
@@ -40,38 +41,37 @@ pub(crate) struct Progress {
 }
 
 /// Answers a line that is refused.
-pub(crate) fn serve_refused<G: Gate, K: Sink>(
+pub(crate) fn serve_refused<G: Gate>(
     service: &Service<G>,
     progress: Progress,
     line: &Line,
     cause: Cause,
-    sink: &mut K,
-) -> (Progress, Result<(), Refused>)
+    answers: &mut Vec<u8>,
+) -> (Progress, Result<(), Memory>)
     requires serving { IsServing service.now.office.now service.now.plan.now
         progress.own progress.pass }
     requires refused { IsRefused service.now.plan.now (line_view line.now) cause }
     ensures same { result.0 ≡ progress }
-    ensures serves { ServesLine service.now.plan.now progress.pass.party (line_view line.now)
-        (position (K.paper sink.old) progress.own progress.pass.seen)
-        (position (K.paper sink.new) result.0.own result.0.pass.seen) result.1 }
-    ensures said { IsSaid (K.paper sink.old) (K.paper sink.new) result.1 }
+    ensures answers { AnswersLine service.now.plan.now progress.pass.party (line_view line.now)
+        (reached answers.old.items progress.own progress.pass.seen)
+        (reached answers.new.items result.0.own result.0.pass.seen) result.1 }
 {
-    let said = say_refused(sink, cause);
+    let said = say_refused(answers, cause);
     (progress, said)
 }
 
 /// Answers an input that is in the plan's ranges: it is submitted, and its number is answered, or that the journal is
 /// full. For want of memory it isn't accepted, and nothing is answered.
-pub(crate) fn serve_input<G: Gate, K: Sink, L: Ledger, R: Wait>(
+pub(crate) fn serve_input<G: Gate, L: Ledger, R: Wait>(
     rt: &R,
     service: &Service<G>,
     progress: Progress,
     line: &Line,
     asked: &LineInput<'_>,
     input: Input,
-    sink: &mut K,
+    answers: &mut Vec<u8>,
     steps: &mut Steps<L>,
-) -> (Progress, Result<(), Refused>)
+) -> (Progress, Result<(), Memory>)
     requires serving { IsServing service.now.office.now service.now.plan.now
         progress.own progress.pass }
     requires asks { Asks service.now.plan.now (line_view line.now)
@@ -81,160 +81,143 @@ pub(crate) fn serve_input<G: Gate, K: Sink, L: Ledger, R: Wait>(
     requires fits { FitsPlan service.now.plan.now input }
     ensures pass { IsSameButSeen progress.pass result.0.pass }
     ensures known { result.0.own ≤ length (journal result.0.pass.seen) }
-    ensures serves { ServesLine service.now.plan.now progress.pass.party (line_view line.now)
-        (position (K.paper sink.old) progress.own progress.pass.seen)
-        (position (K.paper sink.new) result.0.own result.0.pass.seen) result.1 }
-    ensures said { IsSaid (K.paper sink.old) (K.paper sink.new) result.1 }
+    ensures answers { AnswersLine service.now.plan.now progress.pass.party (line_view line.now)
+        (reached answers.old.items progress.own progress.pass.seen)
+        (reached answers.new.items result.0.own result.0.pass.seen) result.1 }
 {
     let Progress { pass, own } = progress;
     let (pass, submitted) = service.office.submit(rt, pass, input, service.gate, steps);
     match submitted {
         Submitted::Accepted(number) => {
-            let said = say_accepted(sink, number);
+            let said = say_accepted(answers, number);
             (Progress { pass, own: number }, said)
         }
         Submitted::Full => {
-            let said = say_refused(sink, Cause::Full);
+            let said = say_refused(answers, Cause::Full);
             (Progress { pass, own }, said)
         }
-        Submitted::Memory => (Progress { pass, own }, Err(Refused::Memory)),
+        Submitted::Memory => (Progress { pass, own }, Err(Memory)),
     }
 }
 
 /// Answers `sync`: it helps until all that the desk sent is published, and answers the published front.
-pub(crate) fn serve_sync<G: Gate, K: Sink, L: Ledger, R: Wait>(
+pub(crate) fn serve_sync<G: Gate, L: Ledger, R: Wait>(
     rt: &R,
     service: &Service<G>,
     progress: Progress,
     line: &Line,
-    sink: &mut K,
+    answers: &mut Vec<u8>,
     steps: &mut Steps<L>,
-) -> (Progress, Result<(), Refused>)
+) -> (Progress, Result<(), Memory>)
     requires serving { IsServing service.now.office.now service.now.plan.now
         progress.own progress.pass }
     requires asks { Asks service.now.plan.now (line_view line.now) sync }
     ensures pass { IsSameButSeen progress.pass result.0.pass }
     ensures known { result.0.own ≤ length (journal result.0.pass.seen) }
-    ensures serves { ServesLine service.now.plan.now progress.pass.party (line_view line.now)
-        (position (K.paper sink.old) progress.own progress.pass.seen)
-        (position (K.paper sink.new) result.0.own result.0.pass.seen) result.1 }
-    ensures said { IsSaid (K.paper sink.old) (K.paper sink.new) result.1 }
+    ensures answers { AnswersLine service.now.plan.now progress.pass.party (line_view line.now)
+        (reached answers.old.items progress.own progress.pass.seen)
+        (reached answers.new.items result.0.own result.0.pass.seen) result.1 }
 {
     let Progress { pass, own } = progress;
     let (pass, synced) = service.office.sync(rt, pass, own, service.gate, steps);
     match synced {
         Ok(front) => {
-            let said = say_synced(sink, front);
+            let said = say_synced(answers, front);
             (Progress { pass, own }, said)
         }
-        Err(Memory) => (Progress { pass, own }, Err(Refused::Memory)),
+        Err(Memory) => (Progress { pass, own }, Err(Memory)),
     }
 }
 
 /// Answers `release`: the whole published release.
-pub(crate) fn serve_release<G: Gate, K: Sink, R: Wait>(
+pub(crate) fn serve_release<G: Gate, R: Wait>(
     rt: &R,
     service: &Service<G>,
     progress: Progress,
     line: &Line,
-    sink: &mut K,
-) -> (Progress, Result<(), Refused>)
+    answers: &mut Vec<u8>,
+) -> (Progress, Result<(), Memory>)
     requires serving { IsServing service.now.office.now service.now.plan.now
         progress.own progress.pass }
     requires asks { Asks service.now.plan.now (line_view line.now) release }
     ensures pass { IsSameButSeen progress.pass result.0.pass }
     ensures known { result.0.own ≤ length (journal result.0.pass.seen) }
-    ensures serves { ServesLine service.now.plan.now progress.pass.party (line_view line.now)
-        (position (K.paper sink.old) progress.own progress.pass.seen)
-        (position (K.paper sink.new) result.0.own result.0.pass.seen) result.1 }
-    ensures said { IsSaid (K.paper sink.old) (K.paper sink.new) result.1 }
+    ensures answers { AnswersLine service.now.plan.now progress.pass.party (line_view line.now)
+        (reached answers.old.items progress.own progress.pass.seen)
+        (reached answers.new.items result.0.own result.0.pass.seen) result.1 }
 {
     let Progress { pass, own } = progress;
     let (pass, read) = service.office.read_all(rt, pass);
     let Ok(release) = read else {
-        return (Progress { pass, own }, Err(Refused::Memory));
+        return (Progress { pass, own }, Err(Memory));
     };
     come_from_reading(service.gate, pass.party(), release.front);
-    let mut text = Vec::new(service.alloc);
-    if let Err(Memory) = print_release(service.plan, &release, &mut text) {
-        return (Progress { pass, own }, Err(Refused::Memory));
-    }
-    let said = write_all(sink, &text);
+    let said = print_release(service.plan, &release, answers);
     (Progress { pass, own }, said)
 }
 
 /// Answers `release,NAME`: the block of one item of the published release. A name that no item has is refused.
-pub(crate) fn serve_item<G: Gate, K: Sink, R: Wait>(
+pub(crate) fn serve_item<G: Gate, R: Wait>(
     rt: &R,
     service: &Service<G>,
     progress: Progress,
     line: &Line,
     name: &[u8],
-    sink: &mut K,
-) -> (Progress, Result<(), Refused>)
+    answers: &mut Vec<u8>,
+) -> (Progress, Result<(), Memory>)
     requires serving { IsServing service.now.office.now service.now.plan.now
         progress.own progress.pass }
     requires asks { Asks service.now.plan.now (line_view line.now) (release_of name.now) }
     ensures pass { IsSameButSeen progress.pass result.0.pass }
     ensures known { result.0.own ≤ length (journal result.0.pass.seen) }
-    ensures serves { ServesLine service.now.plan.now progress.pass.party (line_view line.now)
-        (position (K.paper sink.old) progress.own progress.pass.seen)
-        (position (K.paper sink.new) result.0.own result.0.pass.seen) result.1 }
-    ensures said { IsSaid (K.paper sink.old) (K.paper sink.new) result.1 }
+    ensures answers { AnswersLine service.now.plan.now progress.pass.party (line_view line.now)
+        (reached answers.old.items progress.own progress.pass.seen)
+        (reached answers.new.items result.0.own result.0.pass.seen) result.1 }
 {
     let Some(item) = service.plan.find(name) else {
-        let said = say_refused(sink, Cause::Unknown);
+        let said = say_refused(answers, Cause::Unknown);
         return (progress, said);
     };
     let Progress { pass, own } = progress;
     let (pass, read) = service.office.read(rt, pass, item);
     let Ok((front, table)) = read else {
-        return (Progress { pass, own }, Err(Refused::Memory));
+        return (Progress { pass, own }, Err(Memory));
     };
     come_from_reading(service.gate, pass.party(), front);
-    let mut text = Vec::new(service.alloc);
-    if let Err(Memory) = print_node(service.plan, front, item, &table, &mut text) {
-        return (Progress { pass, own }, Err(Refused::Memory));
-    }
-    let said = write_all(sink, &text);
+    let said = print_node(service.plan, front, item, &table, answers);
     (Progress { pass, own }, said)
 }
 
 /// Answers `cert,NAME`: the certificate of a leaf in the published release, or that it has none. A name that no leaf
 /// has is refused.
-pub(crate) fn serve_certificate<G: Gate, K: Sink, R: Wait>(
+pub(crate) fn serve_certificate<G: Gate, R: Wait>(
     rt: &R,
     service: &Service<G>,
     progress: Progress,
     line: &Line,
     name: &[u8],
-    sink: &mut K,
-) -> (Progress, Result<(), Refused>)
+    answers: &mut Vec<u8>,
+) -> (Progress, Result<(), Memory>)
     requires serving { IsServing service.now.office.now service.now.plan.now
         progress.own progress.pass }
     requires asks { Asks service.now.plan.now (line_view line.now) (certificate_of name.now) }
     ensures pass { IsSameButSeen progress.pass result.0.pass }
     ensures known { result.0.own ≤ length (journal result.0.pass.seen) }
-    ensures serves { ServesLine service.now.plan.now progress.pass.party (line_view line.now)
-        (position (K.paper sink.old) progress.own progress.pass.seen)
-        (position (K.paper sink.new) result.0.own result.0.pass.seen) result.1 }
-    ensures said { IsSaid (K.paper sink.old) (K.paper sink.new) result.1 }
+    ensures answers { AnswersLine service.now.plan.now progress.pass.party (line_view line.now)
+        (reached answers.old.items progress.own progress.pass.seen)
+        (reached answers.new.items result.0.own result.0.pass.seen) result.1 }
 {
     let Some(leaf) = leaf_with_name(service.plan, name) else {
-        let said = say_refused(sink, Cause::Unknown);
+        let said = say_refused(answers, Cause::Unknown);
         return (progress, said);
     };
     let Progress { pass, own } = progress;
     let (pass, read) = service.office.read(rt, pass, leaf);
     let Ok((front, table)) = read else {
-        return (Progress { pass, own }, Err(Refused::Memory));
+        return (Progress { pass, own }, Err(Memory));
     };
     come_from_reading(service.gate, pass.party(), front);
-    let mut text = Vec::new(service.alloc);
-    if let Err(Memory) = print_cert(service.plan, front, leaf, &table, &mut text) {
-        return (Progress { pass, own }, Err(Refused::Memory));
-    }
-    let said = write_all(sink, &text);
+    let said = print_cert(service.plan, front, leaf, &table, answers);
     (Progress { pass, own }, said)
 }
 

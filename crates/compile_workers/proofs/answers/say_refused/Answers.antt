@@ -1,4 +1,4 @@
 use Rattle.compile_workers.proofs.answers.say_refused.Goals as goal
 
 pub returns : goal.returns
-returns g c = rw c.text.ensures at c.say.ensures
+returns c = rw c.text.ensures at c.say.ensures

@@ -15,11 +15,17 @@ returns-in_default-clause-end g c =
     unbegun_end c.args.service.now.plan.now c.args.pass.party (g.S.Source.stock c.args.source.now)
     (g.K.Sink.paper c.args.sink.now) c.args.pass.seen c.requires.unused
 
+pub returns-in_default-no_answers-clause-end : goal.returns-in_default-no_answers-clause-end
+returns-in_default-no_answers-clause-end g c =
+    unbegun_end c.args.service.now.plan.now c.args.pass.party (g.S.Source.stock c.args.source.now)
+    (g.K.Sink.paper c.args.sink.now) c.args.pass.seen c.requires.unused
+
 pub reading-init : goal.reading-init
 reading-init g c = (
   (refl, refl, refl, refl, refl, refl, refl),
   omega arith,
   c.in-Ok.ensures.1,
+  c.in-Ok-no_answers.ensures,
   record {
     read = read_begun
         (IsServedUpTo c.args.service.now.plan.now c.args.pass.party (g.K.Sink.paper c.args.sink.now) c.in-Ok.lines
@@ -48,7 +54,7 @@ returns-in-Ok-eq0-clause-end g c =
     said_as old.paper last.paper c.serve_end-last.result.1 (Ok tt) c.in_default-said.is c.serve_end-last.ensures.said in
     at_the_end c.args.service.now.plan.now c.args.pass.party (g.S.Source.stock c.args.source.now)
     (g.S.Source.stock c.reading.source) (g.K.Sink.paper c.args.sink.now) c.reading.lines old c.reading.size
-    c.reading.invariant.3 (g.S.Source.stock c.read_piece.new.source) last c.in-Ok-eq0.field-0 c.read_piece.new.buffer
+    c.reading.invariant.4 (g.S.Source.stock c.read_piece.new.source) last c.in-Ok-eq0.field-0 c.read_piece.new.buffer
     (Ok tt) _ (search rules) (search rules) c.in-Ok-eq0.ensures.ok c.in-Ok-eq0.ensures.bytes.0
     c.in-Ok-eq0.ensures.bytes.1 serves said refl
 
@@ -69,7 +75,7 @@ returns-in-Err-said-clause-end g c =
     (Err c.in-Err-said.refused) c.in-Err-said.is c.serve_end-last.ensures.said in
     at_the_end c.args.service.now.plan.now c.args.pass.party (g.S.Source.stock c.args.source.now)
     (g.S.Source.stock c.reading.source) (g.K.Sink.paper c.args.sink.now) c.reading.lines old c.reading.size
-    c.reading.invariant.3 (g.S.Source.stock c.read_piece.new.source) last c.in-Ok-eq0.field-0 c.read_piece.new.buffer
+    c.reading.invariant.4 (g.S.Source.stock c.read_piece.new.source) last c.in-Ok-eq0.field-0 c.read_piece.new.buffer
     (Err c.in-Err-said.refused) _
     (search rules) (search rules) c.in-Ok-eq0.ensures.ok c.in-Ok-eq0.ensures.bytes.0 c.in-Ok-eq0.ensures.bytes.1 serves
     said c.end_of.ensures
@@ -97,10 +103,10 @@ returns-in-Err-said-2-clause-end g c =
     (sym c.end_of-in-Err-said-2.ensures)
     (within_piece c.args.service.now.plan.now c.args.pass.party (g.S.Source.stock c.args.source.now)
     (g.S.Source.stock c.reading.source) (g.K.Sink.paper c.args.sink.now) c.reading.lines old c.reading.size
-    c.reading.invariant.3 (g.S.Source.stock c.read_piece.new.source) c.serve_piece-next.new.lines next
+    c.reading.invariant.4 (g.S.Source.stock c.read_piece.new.source) c.serve_piece-next.new.lines next
     c.in-Ok-read_piece.count c.read_piece.new.buffer c.in-Err-said-2.refused c.in-Ok-read_piece.ensures.ok
     c.in-Ok-read_piece.ensures.bytes.0 (search rules)
-    (c.in-Ok-read_piece.ensures.within (omega (arith, c.reading.invariant.3.few, c.if-size-eq-MOST_BYTES.false)))
+    (c.in-Ok-read_piece.ensures.within (omega (arith, c.reading.invariant.4.few, c.if-size-eq-MOST_BYTES.false)))
     serves said)
 
 -- at the limit more was read
@@ -109,7 +115,7 @@ returns-then-size-eq-MOST_BYTES-clause-end g c =
     past_the_limit c.args.service.now.plan.now c.args.pass.party (g.S.Source.stock c.args.source.now)
     (g.S.Source.stock c.reading.source) (g.K.Sink.paper c.args.sink.now) c.reading.lines
     (position (g.K.Sink.paper c.reading.sink) c.reading.progress.own c.reading.progress.pass.seen) c.reading.size
-    c.reading.invariant.3 (g.S.Source.stock c.read_piece.new.source) c.in-Ok-read_piece.count
+    c.reading.invariant.4 (g.S.Source.stock c.read_piece.new.source) c.in-Ok-read_piece.count
     c.read_piece.new.buffer c.in-Ok-read_piece.ensures.ok c.in-Ok-read_piece.ensures.bytes.0 (search rules)
     c.in-Ok-read_piece.ensures.piece (search rules) (search rules)
 
@@ -132,12 +138,13 @@ reading-preserved g c =
       search rules,
       c.serve_piece-next.ensures.known,
       search rules,
+      c.serve_piece-next.ensures.none,
       goes_on c.args.service.now.plan.now c.args.pass.party (g.S.Source.stock c.args.source.now)
           (g.S.Source.stock c.reading.source) (g.K.Sink.paper c.args.sink.now) c.reading.lines old c.reading.size
-          c.reading.invariant.3 (g.S.Source.stock c.read_piece.new.source) c.serve_piece-next.new.lines next
+          c.reading.invariant.4 (g.S.Source.stock c.read_piece.new.source) c.serve_piece-next.new.lines next
           c.in-Ok-read_piece.count c.read_piece.new.buffer c.in-Ok-read_piece.ensures.ok
           c.in-Ok-read_piece.ensures.bytes.0 (search rules)
-          (c.in-Ok-read_piece.ensures.within (omega (arith, c.reading.invariant.3.few, c.if-size-eq-MOST_BYTES.false)))
+          (c.in-Ok-read_piece.ensures.within (omega (arith, c.reading.invariant.4.few, c.if-size-eq-MOST_BYTES.false)))
           serves said,
     )
 
@@ -147,4 +154,4 @@ returns-in-Err-clause-end g c =
     at_a_failure c.args.service.now.plan.now c.args.pass.party (g.S.Source.stock c.args.source.now)
     (g.S.Source.stock c.reading.source) (g.K.Sink.paper c.args.sink.now) c.reading.lines
     (position (g.K.Sink.paper c.reading.sink) c.reading.progress.own c.reading.progress.pass.seen) c.reading.size
-    c.reading.invariant.3 (g.S.Source.stock c.read_piece.new.source) c.in-Err.ensures.failed c.in-Err.ensures.bytes
+    c.reading.invariant.4 (g.S.Source.stock c.read_piece.new.source) c.in-Err.ensures.failed c.in-Err.ensures.bytes

@@ -1,4 +1,4 @@
-use Rattle.std.proofs.Common.{◌≡◌, ◌≤◌, ◌-◌, length, false}
+use Rattle.std.proofs.Common.{◌≡◌, ◌≤◌, ◌-◌, length, false, []}
 use Rattle.desk_lock.specs.Passes.{IsSameButSeen}
 use Rattle.accounts_history.specs.History.{journal}
 use Rattle.compile_workers.specs.Serving.{position}
@@ -11,6 +11,7 @@ invariant-reading g l =
     IsSameButSeen l.fn.pass l.progress.pass
     × (l.progress.own ≤ length (journal l.progress.pass.seen))
     × (l.lines.ended ≡ false)
+    × (l.answers.items ≡ [])
     × IsReading l.service.plan.now l.fn.pass.party (g.S.Source.stock l.fn.source) (g.S.Source.stock l.source)
     (g.K.Sink.paper l.fn.sink) l.lines (position (g.K.Sink.paper l.sink) l.progress.own l.progress.pass.seen) l.size
 

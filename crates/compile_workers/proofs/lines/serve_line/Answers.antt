@@ -1,20 +1,19 @@
 use Rattle.std.proofs.Common.{◌∙◌, ap}
 use Rattle.std.specs.Prelude.{Ok, Err}
 use Rattle.line_form.specs.Lines.{line_view}
-use Rattle.qna_edges.specs.declared.refused.Refused.TheVariants.{Memory}
 use Rattle.input_rules.specs.declared.lines.Cause.TheVariants.{Form, Long}
-use Rattle.compile_workers.specs.Serving.{position}
+use Rattle.compile_workers.specs.Answering.{reached}
 use Rattle.compile_workers.proofs.LineAnswers.{asks_nothing, long_fields, refused_fields}
 use Rattle.compile_workers.proofs.Steps.{passed_over}
-use Rattle.compile_workers.proofs.Writing.{serves_idle, serves_over}
+use Rattle.compile_workers.proofs.Waiting.{answers_idle, answers_over}
 use Rattle.compile_workers.proofs.lines.serve_line.Goals as goal
 
 -- a line that is passed over
-pub returns-in-Ok-None-clause-serves : goal.returns-in-Ok-None-clause-serves
-returns-in-Ok-None-clause-serves g c =
+pub returns-in-Ok-None-clause-answers : goal.returns-in-Ok-None-clause-answers
+returns-in-Ok-None-clause-answers g c =
     let line = line_view c.args.line.now in
-    serves_over c.args.service.now.plan.now c.args.progress.pass.party line
-    (position (g.K.Sink.paper c.args.sink.now) c.args.progress.own c.args.progress.pass.seen)
+    answers_over c.args.service.now.plan.now c.args.progress.pass.party line
+    (reached c.args.answers.now.items c.args.progress.own c.args.progress.pass.seen)
     (λ lines text s. passed_over c.args.service.now.plan.now c.args.progress.pass.party lines line text
     c.args.progress.own c.args.progress.pass.seen
     (asks_nothing c.args.service.now.plan.now line
@@ -38,7 +37,7 @@ serve_refused-requires-in-Err-Form-clause-refused g c κs within =
     (c.in-Err-Form.ensures.form.0 (ap (λ e. Err e) c.in-Err-Form.field-0-is))
 
 -- want of memory
-pub returns-in-Err-Memory-clause-serves : goal.returns-in-Err-Memory-clause-serves
-returns-in-Err-Memory-clause-serves g c =
-    serves_idle c.args.service.now.plan.now c.args.progress.pass.party _
-    (position (g.K.Sink.paper c.args.sink.now) c.args.progress.own c.args.progress.pass.seen) Memory
+pub returns-in-Err-Memory-clause-answers : goal.returns-in-Err-Memory-clause-answers
+returns-in-Err-Memory-clause-answers g c =
+    answers_idle c.args.service.now.plan.now c.args.progress.pass.party _
+    (reached c.args.answers.now.items c.args.progress.own c.args.progress.pass.seen) _

@@ -1,7 +1,6 @@
 use Rattle.std.proofs.Common.{◌∙◌, ap, sym}
 use Rattle.std.specs.Arc.{arc_value}
 use Rattle.std.specs.Prelude.{◌≡◌, None}
-use Rattle.qna_edges.specs.declared.refused.Refused.TheVariants.{Memory}
 use Rattle.line_form.specs.Lines.{line_view}
 use Rattle.series_tables.specs.Plan.{item_with_name}
 use Rattle.input_rules.specs.declared.lines.Cause.TheVariants.{Unknown}
@@ -13,17 +12,17 @@ use Rattle.release_print.specs.Release.{node_text}
 use Rattle.compile_workers.specs.Served.{inputs_in, item_block}
 use Rattle.compile_workers.proofs.Journals.{known_grows}
 use Rattle.compile_workers.proofs.LineAnswers.{item_is, serve_item, serve_refusal, refused_item}
-use Rattle.compile_workers.proofs.Shown.{appended_all, at_ok}
-use Rattle.compile_workers.proofs.Writing.{serves_nothing}
+use Rattle.compile_workers.proofs.Shown.{at_ok}
+use Rattle.compile_workers.proofs.Waiting.{answers_nothing}
 use Rattle.compile_workers.proofs.service.serve_item.Goals as goal
 
 -- the name is unknown
-pub returns-in_default-clause-serves : goal.returns-in_default-clause-serves
-returns-in_default-clause-serves g c =
+pub returns-in_default-clause-answers : goal.returns-in_default-clause-answers
+returns-in_default-clause-answers g c =
     let none : item_with_name c.args.service.now.plan.now c.args.name.now ≡ None =
     sym c.find.ensures.item ∙ c.in_default.is in
     serve_refusal c.args.service.now.plan.now c.args.progress.pass.party (line_view c.args.line.now)
-    (g.K.Sink.paper c.args.sink.now) (g.K.Sink.paper c.say_refused-said.new.sink) c.args.progress.own
+    c.args.answers.now.items c.say_refused-said.new.answers.items c.args.progress.own
     c.args.progress.pass.seen c.say_refused-said.result Unknown
     (refused_item c.args.service.now.plan.now (line_view c.args.line.now) c.args.name.now c.requires.asks none)
     c.say_refused-said.ensures
@@ -35,31 +34,14 @@ returns-in_default-read-clause-known g c =
     c.read-pass.ensures.nothing)
     c.requires.serving.known
 
-pub returns-in_default-read-clause-serves : goal.returns-in_default-read-clause-serves
-returns-in_default-read-clause-serves g c =
+pub returns-in_default-read-clause-answers : goal.returns-in_default-read-clause-answers
+returns-in_default-read-clause-answers g c =
     let seen = c.read-pass.result.0.seen in
     let lawful : IsLawful c.args.service.now.plan.now seen =
     c.read-pass.ensures.pass.1 c.args.service.now.plan.now
     (c.read-pass.ensures.pass.0.2 ∙ c.requires.serving.label) in
-    serves_nothing c.args.service.now.plan.now c.args.progress.pass.party (line_view c.args.line.now)
-    (g.K.Sink.paper c.args.sink.now) c.args.progress.own c.args.progress.pass.seen seen Memory lawful
-    (made_sent c.args.progress.pass.party c.args.progress.pass.seen seen c.read-pass.ensures.nothing)
-
-pub returns-in-Err-clause-known : goal.returns-in-Err-clause-known
-returns-in-Err-clause-known g c =
-    known_grows c.args.progress.pass.party c.args.progress.own c.args.progress.pass.seen c.read-pass.result.0.seen
-    (made_sent c.args.progress.pass.party c.args.progress.pass.seen c.read-pass.result.0.seen
-    c.read-pass.ensures.nothing)
-    c.requires.serving.known
-
-pub returns-in-Err-clause-serves : goal.returns-in-Err-clause-serves
-returns-in-Err-clause-serves g c =
-    let seen = c.read-pass.result.0.seen in
-    let lawful : IsLawful c.args.service.now.plan.now seen =
-    c.read-pass.ensures.pass.1 c.args.service.now.plan.now
-    (c.read-pass.ensures.pass.0.2 ∙ c.requires.serving.label) in
-    serves_nothing c.args.service.now.plan.now c.args.progress.pass.party (line_view c.args.line.now)
-    (g.K.Sink.paper c.args.sink.now) c.args.progress.own c.args.progress.pass.seen seen Memory lawful
+    answers_nothing c.args.service.now.plan.now c.args.progress.pass.party (line_view c.args.line.now)
+    c.args.answers.now.items c.args.progress.own c.args.progress.pass.seen seen _ lawful
     (made_sent c.args.progress.pass.party c.args.progress.pass.seen seen c.read-pass.ensures.nothing)
 
 pub returns-clause-known : goal.returns-clause-known
@@ -69,8 +51,8 @@ returns-clause-known g c =
     c.read-pass.ensures.nothing)
     c.requires.serving.known
 
-pub returns-clause-serves : goal.returns-clause-serves
-returns-clause-serves g c =
+pub returns-clause-answers : goal.returns-clause-answers
+returns-clause-answers g c =
     let seen = c.read-pass.result.0.seen in
     let lawful : IsLawful c.args.service.now.plan.now seen =
     c.read-pass.ensures.pass.1 c.args.service.now.plan.now
@@ -80,16 +62,11 @@ returns-clause-serves g c =
     at_ok (λ shown. ShowsTable c.read-pass.result.0 c.in-Some.item shown.0 (table_in (arc_value shown.1)))
     c.read-pass.result.1 (c.in-Ok.front, c.in-Ok.table) c.in-Ok.is c.read-pass.ensures.table in
     let label = c.read-pass.ensures.pass.0.2 ∙ c.requires.serving.label in
-    let text : c.deref-2.result.now ≡ item_block c.args.service.now.plan.now (inputs_in (journal seen)) c.in-Ok.front
-    c.in-Some.item =
-    c.deref-2.ensures.value
-    ∙ appended_all c.print_node.result tt c.new-text.result.items c.print_node.new.out.items
-    (node_text c.args.service.now.plan.now c.in-Ok.front c.in-Some.item (table_in c.deref.result.now))
-    c.in_default-print_node.is c.new-text.ensures.items c.print_node.ensures
-    ∙ ap (node_text c.args.service.now.plan.now c.in-Ok.front c.in-Some.item) (ap table_in c.deref.ensures)
+    let text : node_text c.args.service.now.plan.now c.in-Ok.front c.in-Some.item (table_in c.deref.result.now)
+    ≡ item_block c.args.service.now.plan.now (inputs_in (journal seen)) c.in-Ok.front c.in-Some.item =
+    ap (node_text c.args.service.now.plan.now c.in-Ok.front c.in-Some.item) (ap table_in c.deref.ensures)
     ∙ item_is c.args.service.now.plan.now c.read-pass.result.0 c.in-Some.item c.in-Ok.front table label shows in
     serve_item c.args.service.now.plan.now c.args.progress.pass.party (line_view c.args.line.now)
-    (g.K.Sink.paper c.args.sink.now) (g.K.Sink.paper c.write_all-said.new.sink) c.args.progress.own
-    c.args.progress.pass.seen
-    seen c.write_all-said.result c.args.name.now c.in-Some.item c.in-Ok.front lawful c.read-pass.ensures.nothing
-    c.requires.asks (sym c.find.ensures.item ∙ c.in-Some.is) shows.0 (rw text at c.write_all-said.ensures)
+    c.args.answers.now.items c.print_node-said.new.out.items c.args.progress.own c.args.progress.pass.seen seen
+    c.print_node-said.result c.args.name.now c.in-Some.item c.in-Ok.front lawful c.read-pass.ensures.nothing
+    c.requires.asks (sym c.find.ensures.item ∙ c.in-Some.is) shows.0 (rw text at c.print_node-said.ensures)

@@ -1,6 +1,4 @@
 use Rattle.std.proofs.Common.{refl, rules, append-nil, sym, []}
-use Rattle.office.proofs.Holding.{helps_sent}
-use Rattle.office.proofs.Seen.{made_nothing, made_sent, then_sent}
 use Rattle.compile_workers.proofs.Working.{helped_after, looked_after}
 use Rattle.compile_workers.proofs.workers.counted_work.Goals as goal
 
