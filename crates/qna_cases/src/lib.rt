@@ -9,6 +9,7 @@ mod certificate_rows;
 mod hostile_rows;
 mod line_rows;
 mod plan_rows;
+mod trial_rows;
 mod verdict_rows;
 mod words_rows;
 
@@ -17,5 +18,6 @@ pub use certificate_rows::{CertificateCase, certificates};
 pub use hostile_rows::hostile_batches;
 pub use line_rows::{LineCase, lines};
 pub use plan_rows::{PLAN_STATUS, PlanCase, plans};
+pub use trial_rows::trials;
 pub use verdict_rows::{CERTIFICATE, VerdictCase, verdicts};
 pub use words_rows::{WordsCase, words};

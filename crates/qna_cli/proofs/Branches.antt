@@ -5,27 +5,31 @@ use Rattle.std.specs.Str.{bytes_eq}
 use Rattle.std.proofs.lemmas.Slice.Eq.{bytes_eq-Decides}
 use Rattle.command_words.specs.Command.{is_file_name, is_batch, are_file_names, begins_check, is_check, OnBatch, OnCheck}
 use Rattle.command_words.specs.LiveWords.{LiveForm, live_form}
+use Rattle.command_words.specs.TrialWords.{TrialForm, trial_form}
 use Rattle.command_words.specs.Words.{begins_by, begins_live}
 use Rattle.command_words.proofs.Callers.{check_unlike_live, live_unnamed}
 use Rattle.command_words.proofs.Plain.{batch_lived, check_lived}
+use Rattle.command_words.proofs.Trials.{trial_lived, trial_unnamed}
 use Rattle.qna_live.specs.Live.{OnLive}
 use Rattle.qna_cli.specs.Forms.{HasNoForm}
 
--- the word `check` isn't the word `batch`
-other_word : (word : List ℕ) → bytes_eq word (codes "check") ≡ true → bytes_eq word (codes "batch") ≡ false
-other_word word e =
-    let is : word ≡ codes "check" = (bytes_eq-Decides word (codes "check")).0 e in
-    ap (λ (w : List ℕ). bytes_eq w (codes "batch")) is
+-- a word that is one of two names isn't the other
+other_word : (name other word : List ℕ) → bytes_eq name other ≡ false → bytes_eq word name ≡ true
+    → bytes_eq word other ≡ false
+other_word name other word differ e =
+    let is : word ≡ name = (bytes_eq-Decides word name).0 e in
+    ap (λ (w : List ℕ). bytes_eq w other) is ∙ differ
 
--- words that begin with `check` are none of `batch`
-not_batch : (words : List (List ℕ)) → begins_by (codes "check") words ≡ true → is_batch words ≡ false
-not_batch [] e = refl
-not_batch (a ∷ []) e = refl
-not_batch (a ∷ b ∷ []) e = refl
-not_batch (a ∷ b ∷ c ∷ []) e = refl
-not_batch (word ∷ plan ∷ input ∷ output ∷ []) e =
-    ap (λ (test : Bool). test && are_file_names plan input output) (other_word word e)
-not_batch (a ∷ b ∷ c ∷ d ∷ f ∷ words) e = refl
+-- words that begin with another name are none of `batch`
+not_batch : (name : List ℕ) (words : List (List ℕ)) → bytes_eq name (codes "batch") ≡ false
+    → begins_by name words ≡ true → is_batch words ≡ false
+not_batch name [] differ e = refl
+not_batch name (a ∷ []) differ e = refl
+not_batch name (a ∷ b ∷ []) differ e = refl
+not_batch name (a ∷ b ∷ c ∷ []) differ e = refl
+not_batch name (word ∷ plan ∷ input ∷ output ∷ []) differ e =
+    ap (λ (test : Bool). test && are_file_names plan input output) (other_word name (codes "batch") word differ e)
+not_batch name (a ∷ b ∷ c ∷ d ∷ f ∷ words) differ e = refl
 
 -- and others are none of `check`
 not_check : (words : List (List ℕ)) → begins_by (codes "check") words ≡ false → is_check words ≡ false
@@ -42,6 +46,11 @@ begins_check_by (word ∷ words) e = e
 not_live : (words : List (List ℕ)) → begins_by (codes "check") words ≡ true → live_form words ≡ None
 not_live words e = live_unnamed words (check_unlike_live words (begins_check_by words e))
 
+-- nor of `trial`
+pub not_trial : (words : List (List ℕ)) → begins_by (codes "check") words ≡ true → trial_form words ≡ None
+not_trial [] e = trial_unnamed [] refl
+not_trial (word ∷ words) e = trial_unnamed (word ∷ words) (other_word (codes "check") (codes "trial") word refl e)
+
 -- what is said of `batch`, `check` and `live` holds of words that aren't theirs
 pub no_batch : (P : List ℕ → List ℕ → List ℕ → Type 0) (words : List (List ℕ)) → is_batch words ≡ false
     → OnBatch words P
@@ -53,11 +62,18 @@ no_check P words e h = absurd (let never : true ≡ false = sym h ∙ e in cc)
 pub no_live : (P : LiveForm → Type 0) (words : List (List ℕ)) → live_form words ≡ None → OnLive words P
 no_live P words e form h = absurd (let never : Some form ≡ None = sym h ∙ e in cc)
 
+-- words that are none of `live`, or of `trial`, say nothing of it
+pub never_live : (words : List (List ℕ)) (form : LiveForm) → live_form words ≡ None → live_form words ≡ Some form → ⊥
+never_live words form none is = let never : Some form ≡ None = sym is ∙ none in cc
+
+pub never_trial : (words : List (List ℕ)) (form : TrialForm) → trial_form words ≡ None → trial_form words ≡ Some form → ⊥
+never_trial words form none is = let never : Some form ≡ None = sym is ∙ none in cc
+
 -- ---- words that begin with `check`
 
 pub check_not_batch : (P : List ℕ → List ℕ → List ℕ → Type 0) (words : List (List ℕ))
     → begins_by (codes "check") words ≡ true → OnBatch words P
-check_not_batch P words e = no_batch P words (not_batch words e)
+check_not_batch P words e = no_batch P words (not_batch (codes "check") words refl e)
 
 pub check_not_live : (P : LiveForm → Type 0) (words : List (List ℕ)) → begins_by (codes "check") words ≡ true
     → OnLive words P
@@ -65,7 +81,12 @@ check_not_live P words e = no_live P words (not_live words e)
 
 pub check_no_form : (words : List (List ℕ)) → begins_by (codes "check") words ≡ true → is_check words ≡ false
     → HasNoForm words
-check_no_form words e none = record { batch = not_batch words e; check = none; live = not_live words e }
+check_no_form words e none = record {
+  batch = not_batch (codes "check") words refl e;
+  check = none;
+  live = not_live words e;
+  trial = not_trial words e;
+}
 
 -- ---- words that begin with `live`
 
@@ -79,7 +100,28 @@ live_not_check P words e = no_check P words (check_lived words e)
 
 pub live_no_form : (words : List (List ℕ)) → begins_by (codes "live") words ≡ true → live_form words ≡ None
     → HasNoForm words
-live_no_form words e none = record { batch = batch_lived words e; check = check_lived words e; live = none }
+live_no_form words e none = record {
+  batch = batch_lived words e;
+  check = check_lived words e;
+  live = none;
+  trial = trial_lived words e;
+}
+
+-- ---- words that begin with `trial`
+
+pub trial_not_batch : (P : List ℕ → List ℕ → List ℕ → Type 0) (words : List (List ℕ))
+    → begins_by (codes "trial") words ≡ true → OnBatch words P
+trial_not_batch P words e = no_batch P words (not_batch (codes "trial") words refl e)
+
+pub trial_no_form : (words : List (List ℕ)) → begins_by (codes "check") words ≡ false
+    → begins_by (codes "live") words ≡ false → begins_by (codes "trial") words ≡ true → trial_form words ≡ None
+    → HasNoForm words
+trial_no_form words no_check no_live e none = record {
+  batch = not_batch (codes "trial") words refl e;
+  check = not_check words no_check;
+  live = live_unnamed words no_live;
+  trial = none;
+}
 
 -- ---- other words
 
@@ -92,9 +134,14 @@ pub batch_not_live : (P : LiveForm → Type 0) (words : List (List ℕ)) → beg
 batch_not_live P words e = no_live P words (live_unnamed words e)
 
 pub batch_no_form : (words : List (List ℕ)) → begins_by (codes "check") words ≡ false
-    → begins_by (codes "live") words ≡ false → is_batch words ≡ false → HasNoForm words
-batch_no_form words no_check no_live none =
-    record { batch = none; check = not_check words no_check; live = live_unnamed words no_live }
+    → begins_by (codes "live") words ≡ false → begins_by (codes "trial") words ≡ false → is_batch words ≡ false
+    → HasNoForm words
+batch_no_form words no_check no_live no_trial none = record {
+  batch = none;
+  check = not_check words no_check;
+  live = live_unnamed words no_live;
+  trial = trial_unnamed words no_trial;
+}
 
 pub ruleset branches = (
   check_not_batch,
@@ -103,6 +150,8 @@ pub ruleset branches = (
   live_not_batch,
   live_not_check,
   live_no_form,
+  trial_not_batch,
+  trial_no_form,
   batch_not_check,
   batch_not_live,
   batch_no_form,

@@ -9,6 +9,7 @@ ghost use Rattle.qna_cli.specs.CheckEnd.{IsCheckEnd};
 ghost use Rattle.qna_cli.specs.Forms.{HasNoForm};
 ghost use Rattle.qna_laws.specs.Releases.{ReleasesAreCertified};
 ghost use Rattle.qna_live.specs.Live.{IsLiveEnd, OnLive};
+ghost use Rattle.qna_trial.specs.TrialEnd.{IsTrialEnd, OnTrial};
 
 use crate::check::run_check;
 use crate::release::Releases;
@@ -17,6 +18,7 @@ use qna_base::Memory;
 use qna_edges::{Cabinet, Gate, Sink, Status};
 use qna_live::run_live;
 use qna_parts::{carry_out, tell_usage};
+use qna_trial::run_trial;
 use std::alloc::Global;
 use std::sync::Wait;
 use std::thread::Threads;
@@ -31,10 +33,10 @@ fn names(words: &[&str], command: &str) -> bool
     }
 }
 
-/// Does all that the program does, by its words: `batch PLAN INPUT OUTPUT`, `check CERT`, or
-/// `live PLAN JOURNAL IN OUT ..` with one to sixteen pairs and, anywhere behind the first word, `--workers N`; words of
-/// any other form are `Usage`, or want of memory, and touch no file. The runtime and the gate serve `live`, whose desks
-/// wait for one another.
+/// Does all that the program does, by its words: `batch PLAN INPUT OUTPUT`, `check CERT`, `trial SEED ITEMS YEARS
+/// WORKERS`, or `live PLAN JOURNAL IN OUT ..` with one to sixteen pairs and, anywhere behind the first word,
+/// `--workers N`; words of any other form are `Usage`, or want of memory, and touch no file. The runtime and the gate
+/// serve `live`, whose desks wait for one another.
 #[tactic(auto, using(qna_laws::proofs::Certified::releases_certified, crate::proofs::Branches::branches))]
 pub fn run<R: Threads + Wait + Sync, C: Cabinet, K: Sink, G: Gate>(
     rt: &R,
@@ -62,12 +64,18 @@ pub fn run<R: Threads + Wait + Sync, C: Cabinet, K: Sink, G: Gate>(
     ensures lived { OnLive (words_in words.now) (λ form.
         IsLiveEnd (C.shelves cabinet.old) (C.shelves cabinet.new)
         (K.paper report.old) (K.paper report.new) form result) }
+    ensures tried { OnTrial (words_in words.now) (λ form.
+        IsTrialEnd (K.paper report.old) (K.paper report.new) form result) }
+    ensures fileless { OnTrial (words_in words.now) (λ form. cabinet.new ≡ cabinet.old) }
 {
     if names(words, "check") {
         return run_check(alloc, words, cabinet, report);
     }
     if names(words, "live") {
         return run_live(rt, alloc, words, cabinet, report, gate);
+    }
+    if names(words, "trial") {
+        return run_trial(alloc, words, report);
     }
     run_batch(alloc, words, cabinet, report)
 }

@@ -18,6 +18,7 @@ use qna_base::Memory;
 use qna_edges::{FileCabinet, OpenGate, Status, StdoutSink};
 pub use qna_live::{lives_complete, lives_have_causes, run_live};
 use qna_parts::{Unread, tell_unread, tell_usage};
+pub use qna_trial::{run_trial, trials_complete};
 use std::alloc::Global;
 use std::io::Stdout;
 use std::process::ExitCode;
@@ -27,13 +28,19 @@ use std::{env, fs, io};
 #[cfg(test)]
 mod check_tests;
 #[cfg(test)]
+mod device_tests;
+#[cfg(test)]
 mod live_gates;
 #[cfg(test)]
 mod live_tests;
 #[cfg(test)]
 mod noting;
 #[cfg(test)]
+mod repeating;
+#[cfg(test)]
 mod tests;
+#[cfg(test)]
+mod trial_tests;
 
 /// A file for reading that is always there and empty.
 const NOTHING: &str = "/dev/null";

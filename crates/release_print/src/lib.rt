@@ -8,7 +8,8 @@ mod release;
 
 pub use certificate::print_cert;
 pub use journal::print_journal;
-pub use release::{print_node, print_release};
+pub use line::push_line;
+pub use release::{cell_text, print_node, print_release};
 
 #[cfg(test)]
 mod tests;

@@ -10,7 +10,7 @@ use qna_base::Memory;
 
 /// Appends a line: its word, its fields, each behind a comma, and a line feed. After `Memory` a part of the line stands
 /// there.
-pub(crate) fn push_line(out: &mut Vec<u8>, word: &[u8], fields: &[&[u8]]) -> Result<(), Memory>
+pub fn push_line(out: &mut Vec<u8>, word: &[u8], fields: &[&[u8]]) -> Result<(), Memory>
     ensures { Appends result out.old.items out.new.items
         (line_text word.now (map (λ field. field.now) fields.now)) }
 {

@@ -18,7 +18,7 @@ use series_tables::Plan;
 use std::sync::Arc;
 
 /// The text of a cell: its number, or the word of its mark.
-fn cell_text<'a>(cell: &Cell, buffer: &'a mut Buffer) -> &'a [u8]
+pub fn cell_text<'a>(cell: &Cell, buffer: &'a mut Buffer) -> &'a [u8]
     ensures { result.now ≡ cell_text_of cell.now }
 {
     match cell {

@@ -1,12 +1,10 @@
 //! The inputs of a trial.
 
-ghost use Rattle.std.specs.Prelude.{◌≡◌, ◌≤◌, ◌<◌, ◌+◌, ◌*◌, ◌%◌, ◌++◌, ◌∷◌, [], pos, length, IfOk, OnOk, IsTrue};
+ghost use Rattle.std.specs.Prelude.{◌≡◌, ◌≤◌, ◌<◌, ◌+◌, ◌*◌, ◌%◌, ◌++◌, pos, IfOk, OnOk};
 ghost use Rattle.std.specs.List.{All};
-ghost use Rattle.rand_core.specs.Stream.{next_u64};
 ghost use Rattle.rand_core.specs.Steps.{stream_of};
 ghost use Rattle.rand_xoshiro.specs.SplitMix64.{splitmix_steps};
 ghost use Rattle.series_tables.specs.Fits.{FitsPlan};
-ghost use Rattle.series_tables.specs.Plan.{is_leaf};
 ghost use Rattle.trial_gen.specs.TrialInputs.{behind, first_word, quarter_inputs, year_inputs};
 ghost use Rattle.trial_gen.specs.TrialInputs.{leaf_inputs, inputs_of_trial};
 

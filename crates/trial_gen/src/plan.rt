@@ -1,6 +1,6 @@
 //! The plan of a trial.
 
-ghost use Rattle.std.specs.Prelude.{◌≡◌, ◌≤◌, ◌<◌, ◌+◌, ◌%◌, IfOk};
+ghost use Rattle.std.specs.Prelude.{◌≡◌, ◌≤◌, ◌+◌, ◌%◌, IfOk};
 ghost use Rattle.series_tables.specs.IsPlan.{names_of, parents_of};
 ghost use Rattle.trial_gen.specs.TrialPlan.{trial_name, trial_parent, trial_names, trial_parents};
 ghost use Rattle.trial_gen.specs.TrialPlan.{plan_of_trial};
