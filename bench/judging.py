@@ -60,6 +60,8 @@ class Answers:
     def __init__(self, run, desk, answers, is_cut):
         self.run, self.desk, self.answers, self.is_cut = run, desk, answers, is_cut
         self.places, self.at, self.own, self.front, self.fault = deque(run.places(desk)), 0, 0, 0, None
+        # from where the answers break off the journal alone tells which lines were taken
+        self.has_broken_off = False
 
     def judge(self, text):
         """What is wrong with the answers to these lines, or nothing."""
@@ -78,15 +80,21 @@ class Answers:
         self.fault = fault
         raise Ended
 
-    def expect(self, answer, untold=0):
-        """Reads this answer. Where it breaks off, so many inputs of the desk may stand in the journal untold."""
+    def expect(self, answer):
+        """Reads this answer, as far as answers were written."""
+        if self.has_broken_off:
+            return
         if self.answers.startswith(answer, self.at):
             self.at += len(answer)
             return
         rest = self.answers[self.at:]
-        if self.is_cut and answer.startswith(rest):
-            self.fail('inputs without an answer' if len(self.places) > untold else None)
-        self.fail(f'{rest[:60]!r} in place of {answer[:60]!r}')
+        if not (self.is_cut and answer.startswith(rest)):
+            self.fail(f'{rest[:60]!r} in place of {answer[:60]!r}')
+        self.break_off()
+
+    def break_off(self):
+        """Takes note that no more was written."""
+        self.has_broken_off, self.at = True, len(self.answers)
 
     def answer(self, what, said):
         """Reads the answer to one line."""
@@ -108,7 +116,7 @@ class Answers:
         place, line = self.places[0]
         if line != b'%s,%d' % (said[4], self.desk) or place <= max(self.own, self.front):
             self.fail(f'the journal has {line!r} at {place}, after {self.own} and front {self.front}')
-        self.expect(record(b'ok', place), untold=1)
+        self.expect(record(b'ok', place))
         self.own = place
         self.places.popleft()
 
@@ -118,7 +126,9 @@ class Answers:
             return self.expect(b'no,unknown\n')
         certificates = [b'cert,%s' % (name or b''), b'nocert,%s' % (name or b'')]
         words = {b'sync': [b'synced'], b'release': [b'release']}.get(word, certificates)
-        front = self.front_behind(words)
+        front = None if self.has_broken_off else self.front_behind(words)
+        if front is None:
+            return
         least = max(self.front, self.own if word == b'sync' else self.own - MOST_BEHIND)
         if not least <= front <= len(self.run.taken):
             self.fail(f'front {front} after {self.own} and front {self.front}')
@@ -130,14 +140,14 @@ class Answers:
         self.front = front
 
     def front_behind(self, words):
-        """The front that stands behind one of these words in the next line."""
+        """The front that stands behind one of these words in the next line, or none where it was not written."""
         head, end, _ = self.answers[self.at:].partition(b'\n')
         for word in words:
             found = re.fullmatch(re.escape(word) + rb',(0|[1-9][0-9]*)', head)
             if found and end:
                 return int(found[1])
         if self.is_cut and not end and any((word + b',').startswith(head[:len(word) + 1]) for word in words):
-            self.fail('inputs without an answer' if self.places else None)
+            return self.break_off()
         self.fail(f'{head[:60]!r} in place of a front')
 
 

@@ -17,7 +17,7 @@ import subprocess
 import sys
 import tempfile
 from collections import Counter
-from itertools import permutations
+from itertools import product
 from pathlib import Path
 
 from compiling import Release
@@ -128,20 +128,31 @@ def is_told_by(plan, whole, journal, report, desks, one_alone):
 
 
 def rebuilt(plan, desks):
-    """The journals that the answers tell, where each desk may have one more input that it wasn't told of."""
+    """The journals that the answers tell, where each desk may have more inputs, in its order, that it wasn't told of."""
     told, untold = {}, []
     for desk, (text, answers) in enumerate(desks, 1):
         places = [int(answer[3:]) for answer in answers.split(b'\n')[:-1] if begins(answer, b'ok,')]
         said = [judged(plan, line) for line in lines_of(text)]
         inputs = [b'%s,%d\n' % (taken[4], desk) for what, taken in said if what == 'taken']
         told.update(zip(places, inputs))
-        untold += inputs[len(places):len(places) + 1]
-    for count in range(len(untold) + 1):
-        for more in permutations(untold, count):
-            free = [place for place in range(1, len(told) + count + 1) if place not in told]
-            if len(free) == count:
+        untold.append(inputs[len(places):])
+    for counts in product(*[range(len(inputs) + 1) for inputs in untold]):
+        every = range(1, len(told) + sum(counts) + 1)
+        free = [place for place in every if place not in told]
+        if len(free) == sum(counts):
+            for more in merged([inputs[:count] for inputs, count in zip(untold, counts)]):
                 journal = told | dict(zip(free, more))
-                yield b''.join(journal[place] for place in sorted(journal))
+                yield b''.join(journal[place] for place in every)
+
+
+def merged(lists):
+    """All lists of what these lists hold, each of them in its order."""
+    if not any(lists):
+        yield []
+    for at, chosen in enumerate(lists):
+        if chosen:
+            for rest in merged([*lists[:at], chosen[1:], *lists[at + 1:]]):
+                yield [chosen[0], *rest]
 
 
 LAWFUL = {'batch': is_lawful_batch, 'check': is_lawful_check, 'live': is_lawful_live}

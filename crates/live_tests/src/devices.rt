@@ -132,3 +132,21 @@ fn the_first_desk_that_ends_badly_gives_the_status(rt: HostRuntime) -> Result<()
     }
     Ok(())
 }
+
+#[test]
+fn a_broken_source_ends_its_desk_alone(rt: HostRuntime) -> Result<(), Fail> {
+    let files = Files {
+        first: YEAR,
+        second: b"price,FOOD,2021Q1,7\nsync\n",
+        first_reads: &[2],
+        ..QUIET
+    };
+    let left = left_by(&rt, rt.alloc(), TWO, &files)?;
+    assert_eq!(&rt; left.status, Status::ReadFault);
+    for answers in [&left.first, &left.second] {
+        let text = answers.as_deref().unwrap_or(b"");
+        assert!(&rt; text.starts_with(b"ok,") && text.ends_with(b"\n"));
+    }
+    assert!(rt; left.report.starts_with(b"release,6\n") && left.report.ends_with(b"end,6\n"));
+    Ok(())
+}

@@ -1,4 +1,5 @@
-// `live` over files in memory: one desk's answers line by line, failing devices, words, and a desk that says nothing.
+// `live` over files in memory: one desk's answers line by line, a device that fails within, words, and a desk that says
+// nothing.
 
 ghost use Rattle.std.specs.Prelude.{◌<◌, ◌≤◌, length};
 
@@ -12,22 +13,17 @@ use std::thread::Threads;
 /// One item.
 const PLAN: &'static [u8] = b"start,2021\nitem,FOOD,\n";
 
-/// What is written where it is asked for, and how: the most bytes of one read or write, and which calls fail, by their
-/// numbers from 1.
+/// The most bytes of one read or write of the desk, and which of its writes fail, by their numbers from 1.
 #[derive(Clone, Copy)]
 struct Devices<'a> {
     piece: usize,
-    input: &'a [u64],
     output: &'a [u64],
-    journal: &'a [u64],
 }
 
 /// Devices that never fail.
 const WORKING: Devices = Devices {
     piece: 4096,
-    input: &[],
     output: &[],
-    journal: &[],
 };
 
 /// What a command left.
@@ -35,8 +31,7 @@ const WORKING: Devices = Devices {
 struct Left {
     status: Status,
     journal: Vec<u8>,
-    first: Vec<u8>,
-    second: Vec<u8>,
+    answers: Vec<u8>,
     report: Vec<u8>,
 }
 
@@ -48,13 +43,12 @@ fn held_under(alloc: Global, cabinet: &MemCabinet, name: &str) -> Result<Vec<u8>
     }
 }
 
-/// Runs words over the files of two desks in memory. The devices are those of the first desk, and the journal's.
+/// Runs words over the files of a desk in memory.
 fn left_by<R: Threads + Wait + Sync>(
     rt: &R,
     alloc: Global,
     words: &[&str],
-    first: &[u8],
-    second: &[u8],
+    lines: &[u8],
     devices: &Devices,
 ) -> Result<Left, Fail>
     requires { 0 < devices.now.piece }
@@ -64,26 +58,18 @@ fn left_by<R: Threads + Wait + Sync>(
         "p",
         MemSource::new(PLAN.to_vec(alloc)?, 4096, Vec::new(alloc)),
     )?;
-    let input = devices.input.to_vec(alloc)?;
     cabinet.put_file(
         "i",
-        MemSource::new(first.to_vec(alloc)?, devices.piece, input),
-    )?;
-    cabinet.put_file(
-        "h",
-        MemSource::new(second.to_vec(alloc)?, 4096, Vec::new(alloc)),
+        MemSource::new(lines.to_vec(alloc)?, devices.piece, Vec::new(alloc)),
     )?;
     let output = devices.output.to_vec(alloc)?;
     cabinet.plan_sink("o", MemSink::new(alloc, devices.piece, output))?;
-    let journal = devices.journal.to_vec(alloc)?;
-    cabinet.plan_sink("j", MemSink::new(alloc, devices.piece, journal))?;
     let mut report = MemSink::new(alloc, 4096, Vec::new(alloc));
     let status = run(rt, alloc, words, &mut cabinet, &mut report, &OpenGate);
     Ok(Left {
         status,
         journal: held_under(alloc, &cabinet, "j")?,
-        first: held_under(alloc, &cabinet, "o")?,
-        second: held_under(alloc, &cabinet, "g")?,
+        answers: held_under(alloc, &cabinet, "o")?,
         report: report.held().to_vec(alloc)?,
     })
 }
@@ -93,9 +79,6 @@ const ALONE: &'static [&str] = &["live", "p", "j", "i", "o", "--workers", "0"];
 
 /// A desk with two workers.
 const HELPED: &'static [&str] = &["live", "p", "j", "i", "o"];
-
-/// Two desks with two workers.
-const BOTH: &'static [&str] = &["live", "p", "--workers", "2", "j", "i", "o", "h", "g"];
 
 /// Lines of every refusal, and two that are accepted, at the ends of their ranges. Before them stands a long one.
 const LINES: &'static [u8] =
@@ -121,9 +104,9 @@ fn each_line_has_its_answer(rt: HostRuntime) -> Result<(), Fail> {
     let alloc = rt.alloc();
     let text = long_and_lines(alloc)?;
     for words in [ALONE, HELPED] {
-        let left = left_by(&rt, alloc, words, &text, b"", &WORKING)?;
-        assert!(&rt; left.first.starts_with(ANSWERS.as_bytes()));
-        let last = &left.first[ANSWERS.len()..];
+        let left = left_by(&rt, alloc, words, &text, &WORKING)?;
+        assert!(&rt; left.answers.starts_with(ANSWERS.as_bytes()));
+        let last = &left.answers[ANSWERS.len()..];
         let fronts: [&[u8]; 3] = [b"nocert,FOOD,0\n", b"nocert,FOOD,1\n", b"nocert,FOOD,2\n"];
         assert!(&rt; fronts.iter().any(|front| *front == last));
         assert_eq!(&rt; left.journal.as_slice(), JOURNAL);
@@ -153,78 +136,36 @@ fn a_broken_desk_leaves_journal_and_report(rt: HostRuntime) -> Result<(), Fail> 
         output: &[2],
         ..WORKING
     };
-    let left = left_by(&rt, alloc, HELPED, YEAR, b"", &broken)?;
+    let left = left_by(&rt, alloc, HELPED, YEAR, &broken)?;
     assert_eq!(&rt; left.status, Status::WriteFault);
-    assert!(&rt; left.first.len() <= 30 && b"ok,1\n".starts_with(&left.first));
+    assert_eq!(&rt; left.answers.as_slice(), b"ok,1\n".as_slice());
     assert_eq!(&rt;
         left.journal.as_slice(),
-        b"ind,FOOD,2021Q1,100,1\n".as_slice()
+        b"ind,FOOD,2021Q1,100,1\nind,FOOD,2021Q2,100,1\nind,FOOD,2021Q3,100,1\n".as_slice()
     );
-    assert!(rt; left.report.starts_with(b"release,1\n") && left.report.ends_with(b"end,1\n"));
+    assert!(rt; left.report.starts_with(b"release,3\n") && left.report.ends_with(b"end,3\n"));
     Ok(())
 }
 
 #[test]
 fn a_silent_desk_leaves_an_empty_journal(rt: HostRuntime) -> Result<(), Fail> {
     let alloc = rt.alloc();
-    let left = left_by(&rt, alloc, HELPED, b"", b"", &WORKING)?;
+    let left = left_by(&rt, alloc, HELPED, b"", &WORKING)?;
     assert_eq!(&rt; left.status, Status::Done);
-    assert!(&rt; left.first.is_empty() && left.journal.is_empty());
+    assert!(&rt; left.answers.is_empty() && left.journal.is_empty());
     assert_eq!(rt; left.report.as_slice(), b"release,0\nend,0\n".as_slice());
-    Ok(())
-}
-
-#[test]
-fn a_broken_source_ends_its_desk_alone(rt: HostRuntime) -> Result<(), Fail> {
-    let alloc = rt.alloc();
-    let broken = Devices {
-        piece: 50,
-        input: &[2],
-        ..WORKING
-    };
-    let left = left_by(
-        &rt,
-        alloc,
-        BOTH,
-        YEAR,
-        b"price,FOOD,2021Q1,7\nsync\n",
-        &broken,
-    )?;
-    assert_eq!(&rt; left.status, Status::ReadFault);
-    assert!(&rt; left.first.starts_with(b"ok,") && left.second.starts_with(b"ok,"));
-    assert!(&rt; left.second.ends_with(b"\n") && left.journal.ends_with(b"\n"));
-    assert!(&rt; left.report.starts_with(b"release,3\n"));
-    assert!(rt; left.report.ends_with(b"end,3\n"));
-    Ok(())
-}
-
-#[test]
-fn a_broken_journal_leaves_the_report(rt: HostRuntime) -> Result<(), Fail> {
-    let alloc = rt.alloc();
-    let broken = Devices {
-        journal: &[1],
-        ..WORKING
-    };
-    let left = left_by(&rt, alloc, ALONE, YEAR, b"", &broken)?;
-    assert_eq!(&rt; left.status, Status::WriteFault);
-    assert!(&rt; left.journal.is_empty());
-    assert!(&rt;
-        left.first
-            .starts_with(b"ok,1\nok,2\nok,3\nok,4\nok,5\nrelease,")
-    );
-    assert_eq!(rt; left.report.as_slice(), RELEASE);
     Ok(())
 }
 
 #[test]
 fn one_desk_reports_what_batch_writes(rt: HostRuntime) -> Result<(), Fail> {
     let alloc = rt.alloc();
-    let left = left_by(&rt, alloc, ALONE, YEAR, b"", &WORKING)?;
+    let left = left_by(&rt, alloc, ALONE, YEAR, &WORKING)?;
     assert_eq!(&rt; left.status, Status::Done);
     assert_eq!(&rt; left.journal.as_slice(), YEAR_SENT);
     assert_eq!(&rt; left.report.as_slice(), RELEASE);
-    let batch = left_by(&rt, alloc, &["batch", "p", "i", "o"], YEAR, b"", &WORKING)?;
-    assert_eq!(rt; batch.first.as_slice(), RELEASE);
+    let batch = left_by(&rt, alloc, &["batch", "p", "i", "o"], YEAR, &WORKING)?;
+    assert_eq!(rt; batch.answers.as_slice(), RELEASE);
     Ok(())
 }
 
@@ -256,14 +197,14 @@ fn other_words_are_no_form_of_live(rt: HostRuntime) -> Result<(), Fail> {
         &["batch", "--workers", "1", "p", "i", "o"],
     ];
     for words in cases {
-        let left = left_by(&rt, alloc, words, YEAR, b"", &WORKING)?;
+        let left = left_by(&rt, alloc, words, YEAR, &WORKING)?;
         assert_eq!(&rt; left.status, Status::Usage);
         assert_eq!(&rt; left.report.as_slice(), b"usage\n".as_slice());
-        assert!(&rt; left.journal.is_empty() && left.first.is_empty());
+        assert!(&rt; left.journal.is_empty() && left.answers.is_empty());
     }
     for workers in ["0", "16", "00000000000000000002"] {
         let words = ["live", "p", "j", "--workers", workers, "i", "o"];
-        let left = left_by(&rt, alloc, &words, b"", b"", &WORKING)?;
+        let left = left_by(&rt, alloc, &words, b"", &WORKING)?;
         assert_eq!(&rt; left.status, Status::Done);
     }
     Ok(())

@@ -1,4 +1,4 @@
-// Words of another form, and devices that fail.
+// Words of another form, and devices that fail within a file or with another.
 
 use super::{Devices, WORKING, assert_left, left_by_batch};
 use crate::run;
@@ -42,36 +42,6 @@ fn a_file_that_cant_be_opened_is_named(rt: HostRuntime) -> Result<(), Fail> {
         rt.alloc(),
         &[
             FaultCase {
-                name: "the plan can't be opened",
-                devices: Devices {
-                    opens: &[1],
-                    ..WORKING
-                },
-                status: 4,
-                output: None,
-                report: b"open,p\n",
-            },
-            FaultCase {
-                name: "the input can't be opened",
-                devices: Devices {
-                    opens: &[2],
-                    ..WORKING
-                },
-                status: 4,
-                output: None,
-                report: b"open,i\n",
-            },
-            FaultCase {
-                name: "the output can't be created",
-                devices: Devices {
-                    opens: &[3],
-                    ..WORKING
-                },
-                status: 4,
-                output: None,
-                report: b"open,o\n",
-            },
-            FaultCase {
                 name: "nor can the line of the plan be written",
                 devices: Devices {
                     opens: &[1],
@@ -105,16 +75,6 @@ fn a_read_that_fails_names_its_file(rt: HostRuntime) -> Result<(), Fail> {
         rt.alloc(),
         &[
             FaultCase {
-                name: "the plan's first read fails",
-                devices: Devices {
-                    plan: &[1],
-                    ..WORKING
-                },
-                status: 5,
-                output: None,
-                report: b"read,p\n",
-            },
-            FaultCase {
                 name: "the plan's third read fails",
                 devices: Devices {
                     plan: &[3],
@@ -124,16 +84,6 @@ fn a_read_that_fails_names_its_file(rt: HostRuntime) -> Result<(), Fail> {
                 status: 5,
                 output: None,
                 report: b"read,p\n",
-            },
-            FaultCase {
-                name: "the input's first read fails",
-                devices: Devices {
-                    input: &[1],
-                    ..WORKING
-                },
-                status: 5,
-                output: Some(b""),
-                report: b"read,i\n",
             },
             FaultCase {
                 name: "the input's ninth read fails",
@@ -212,16 +162,6 @@ fn a_write_that_fails_leaves_a_beginning(rt: HostRuntime) -> Result<(), Fail> {
         rt.alloc(),
         &[
             FaultCase {
-                name: "the output's first write fails",
-                devices: Devices {
-                    output: &[1],
-                    ..WORKING
-                },
-                status: 6,
-                output: Some(b""),
-                report: b"1,no,range\n2,no,form\nwrite,o\n",
-            },
-            FaultCase {
                 name: "the output's third write fails",
                 devices: Devices {
                     output: &[3],
@@ -242,16 +182,6 @@ fn a_write_that_fails_leaves_a_beginning(rt: HostRuntime) -> Result<(), Fail> {
                 status: 6,
                 output: Some(b""),
                 report: REFUSED,
-            },
-            FaultCase {
-                name: "the report's first write fails",
-                devices: Devices {
-                    report: &[1],
-                    ..WORKING
-                },
-                status: 6,
-                output: Some(b""),
-                report: b"",
             },
             FaultCase {
                 name: "the report breaks off within a line",
